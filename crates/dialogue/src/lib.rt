@@ -1,0 +1,16 @@
+//! What a run shows: its dialogue with a console, its ending, and the input that it leaves. The typed
+//! machine and the machine of the infusions speak of the same record. The definitions are in specs/;
+//! the one function carries their laws. This crate stands on `std` alone.
+#![tactic(auto)]
+
+ghost use Rattle.std.specs.Prelude.{◌≡◌, ℕ, List, [], ◌++◌};
+ghost use Rattle.dialogue.specs.Dialogue.{Item, puts, notes, noting};
+
+/// What is put by two dialogues, one after the other, is what each puts, and so for notes. Noting
+/// bytes puts nothing and notes these bytes.
+pub fn dialogues_join()
+    ensures puts { (first second : List Item) → puts (first ++ second) ≡ puts first ++ puts second }
+    ensures notes { (first second : List Item) → notes (first ++ second) ≡ notes first ++ notes second }
+    ensures noting_puts { (bytes : List ℕ) → puts (noting bytes) ≡ [] }
+    ensures noting_notes { (bytes : List ℕ) → notes (noting bytes) ≡ bytes }
+{}
