@@ -1,0 +1,13 @@
+pub mod StraightCode
+pub mod Texts
+pub mod Linked
+pub mod Loop
+pub mod Flags
+pub mod Steps
+pub mod Entries
+pub mod Places
+pub mod NameTests
+pub mod Members
+pub mod Refusals
+pub mod Class
+pub mod ReadingLaws
