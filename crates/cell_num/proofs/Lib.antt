@@ -1,0 +1,4 @@
+pub mod Wrapping
+pub mod Thresholds
+pub mod IntResults
+pub mod CellLaws

@@ -1,0 +1,4 @@
+use Rattle.cell_num.proofs.tests.a_counter_takes_no_bytes.Given as goal
+
+abbrev pub ghosts-two_steps : goal.ghosts-two_steps
+ghosts-two_steps g a = record { name = a.blank.name; parts = a.blank.parts }
