@@ -1,0 +1,5 @@
+pub mod CodeIsOne
+pub mod Endings
+pub mod FirstMain
+pub mod StraightRun
+pub mod VerdictLaws
