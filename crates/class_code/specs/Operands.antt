@@ -1,0 +1,74 @@
+-- The operands of instructions (JVMS 6.5): each is a value and the bytes behind it, or a fault.
+use Rattle.std.specs.Prelude.{◌≡◌, ℕ, ℤ, pos, negsuc, ◌+ℤ◌, ◌-◌, ◌^◌, nat_lt, if◌then◌else◌, List, [], ◌∷◌, length, take, drop, Result, Ok, Err}
+use Rattle.std.specs.Int.{w8, w16, w32, cast_signed}
+use Rattle.byteorder.specs.Endian.{big_number}
+use Rattle.class_code.specs.declared.refusal.Fault.{Fault}
+use Rattle.class_code.specs.declared.refusal.Fault.TheVariants.{Unsupported, BadCode, Memory}
+
+infixl 10 ◌>>=◌
+abbrev pub ◌>>=◌ : {A B : Type 0} → Result A Fault → (A → Result B Fault) → Result B Fault
+(Ok x) >>= f = f x
+(Err e) >>= f = Err e
+
+-- what a function returned, seen by view, is what reading gives, unless memory ran out
+abbrev pub Gives : {X Y : Type 0} → (X → Y) → Result X Fault → Result Y Fault → Type 0
+Gives view (Ok x) read = read ≡ Ok (view x)
+Gives view (Err (Unsupported opcode)) read = read ≡ Err (Unsupported opcode)
+Gives view (Err BadCode) read = read ≡ Err BadCode
+Gives view (Err Memory) read = Unit {0}
+
+-- ---- numbers
+
+unfoldable pub u1_at : List ℕ → Result (ℕ × List ℕ) Fault
+u1_at [] = Err BadCode
+u1_at (byte ∷ rest) = Ok (byte, rest)
+
+unfoldable pub u2_at : List ℕ → Result (ℕ × List ℕ) Fault
+u2_at bytes = if nat_lt (length bytes) 2 then Err BadCode else Ok (big_number 2 bytes, drop 2 bytes)
+
+unfoldable pub u4_at : List ℕ → Result (ℕ × List ℕ) Fault
+u4_at bytes = if nat_lt (length bytes) 4 then Err BadCode else Ok (big_number 4 bytes, drop 4 bytes)
+
+unfoldable pub i1_at : List ℕ → Result (ℤ × List ℕ) Fault
+i1_at bytes = do
+  byte ← u1_at bytes
+  Ok (cast_signed w8 byte.0, byte.1)
+
+unfoldable pub i2_at : List ℕ → Result (ℤ × List ℕ) Fault
+i2_at bytes = do
+  number ← u2_at bytes
+  Ok (cast_signed w16 number.0, number.1)
+
+unfoldable pub i4_at : List ℕ → Result (ℤ × List ℕ) Fault
+i4_at bytes = do
+  number ← u4_at bytes
+  Ok (cast_signed w32 number.0, number.1)
+
+-- so many bytes
+unfoldable pub slice_at : ℕ → List ℕ → Result (List ℕ × List ℕ) Fault
+slice_at size bytes = if nat_lt (length bytes) size then Err BadCode else Ok (take size bytes, drop size bytes)
+
+-- ---- targets
+
+-- no instruction stands there: the code that is decoded has fewer bytes
+abbrev pub nowhere : ℕ
+nowhere = 2 ^ 32 - 1
+
+-- the place itself where it is a pc, else nowhere
+abbrev pub as_pc : ℤ → ℕ
+as_pc (pos place) = if nat_lt nowhere place then nowhere else place
+as_pc (negsuc place) = nowhere
+
+-- a target counts from its instruction's pc
+abbrev pub target : ℕ → ℤ → ℕ
+target pc offset = as_pc (pos pc +ℤ offset)
+
+unfoldable pub target_at : ℕ → List ℕ → Result (ℕ × List ℕ) Fault
+target_at pc bytes = do
+  offset ← i2_at bytes
+  Ok (target pc offset.0, offset.1)
+
+unfoldable pub far_target_at : ℕ → List ℕ → Result (ℕ × List ℕ) Fault
+far_target_at pc bytes = do
+  offset ← i4_at bytes
+  Ok (target pc offset.0, offset.1)

@@ -1,0 +1,35 @@
+//! Opcodes 167 to 177.
+
+ghost use Rattle.std.specs.Prelude.{◌≡◌};
+ghost use Rattle.class_code.specs.Operands.{Gives};
+ghost use Rattle.class_code.specs.Table.{control};
+
+use crate::insn::{Insn, ValueKind};
+use crate::operand::target_at;
+use crate::refusal::Fault;
+use crate::switch::{lookupswitch, tableswitch};
+use std::alloc::Global;
+
+/// goto, the switches and the returns.
+#[tactic(auto, unfolding(crate::specs::Table::control))]
+pub(crate) fn control(
+    alloc: Global,
+    pc: u32,
+    opcode: u8,
+    operands: &[u8],
+) -> Result<(Insn, &[u8]), Fault>
+    ensures { Gives (λ x. (x.0, x.1.now)) result (control pc opcode operands.now) }
+{
+    match opcode {
+        167 => {
+            let (target, rest) = target_at(pc, operands)?;
+            Ok((Insn::Goto(target), rest))
+        }
+        170 => tableswitch(alloc, pc, operands),
+        171 => lookupswitch(alloc, pc, operands),
+        172 => Ok((Insn::Return(Some(ValueKind::Int)), operands)),
+        176 => Ok((Insn::Return(Some(ValueKind::Ref)), operands)),
+        177 => Ok((Insn::Return(None), operands)),
+        _ => Err(Fault::Unsupported(opcode)),
+    }
+}

@@ -1,0 +1,82 @@
+//! Opcodes 196 to 201.
+
+ghost use Rattle.std.specs.Prelude.{◌≡◌};
+ghost use Rattle.class_code.specs.Operands.{Gives};
+ghost use Rattle.class_code.specs.Table.{wide_increment, widened, wide, goto_w, extended};
+
+use crate::branch::branch;
+use crate::insn::{Insn, ValueKind};
+use crate::operand::{far_target_at, i2_at, u1_at, u2_at};
+use crate::reference::multi_array;
+use crate::refusal::Fault;
+
+/// iinc behind wide.
+#[tactic(auto, unfolding(crate::specs::Table::wide_increment))]
+fn wide_increment(operands: &[u8]) -> Result<(Insn, &[u8]), Fault>
+    ensures { Gives (λ x. (x.0, x.1.now)) result (wide_increment operands.now) }
+{
+    let (local, rest) = u2_at(operands)?;
+    let (amount, rest) = i2_at(rest)?;
+    Ok((Insn::Inc { local, amount }, rest))
+}
+
+/// An opcode behind wide. One that is left out is so whatever stands behind it.
+#[tactic(auto, unfolding(crate::specs::Table::widened))]
+fn widened(opcode: u8, operands: &[u8]) -> Result<(Insn, &[u8]), Fault>
+    ensures { Gives (λ x. (x.0, x.1.now)) result (widened opcode operands.now) }
+{
+    match opcode {
+        21 => {
+            let (local, rest) = u2_at(operands)?;
+            Ok((Insn::Load(ValueKind::Int, local), rest))
+        }
+        25 => {
+            let (local, rest) = u2_at(operands)?;
+            Ok((Insn::Load(ValueKind::Ref, local), rest))
+        }
+        54 => {
+            let (local, rest) = u2_at(operands)?;
+            Ok((Insn::Store(ValueKind::Int, local), rest))
+        }
+        58 => {
+            let (local, rest) = u2_at(operands)?;
+            Ok((Insn::Store(ValueKind::Ref, local), rest))
+        }
+        132 => wide_increment(operands),
+        22..=24 | 55..=57 | 169 => Err(Fault::Unsupported(opcode)),
+        _ => Err(Fault::BadCode),
+    }
+}
+
+/// wide.
+#[tactic(auto, unfolding(crate::specs::Table::wide))]
+fn wide(operands: &[u8]) -> Result<(Insn, &[u8]), Fault>
+    ensures { Gives (λ x. (x.0, x.1.now)) result (wide operands.now) }
+{
+    let (opcode, rest) = u1_at(operands)?;
+    widened(opcode, rest)
+}
+
+/// goto_w.
+#[tactic(auto, unfolding(crate::specs::Table::goto_w))]
+fn goto_w(pc: u32, operands: &[u8]) -> Result<(Insn, &[u8]), Fault>
+    ensures { Gives (λ x. (x.0, x.1.now)) result (goto_w pc operands.now) }
+{
+    let (target, rest) = far_target_at(pc, operands)?;
+    Ok((Insn::Goto(target), rest))
+}
+
+/// wide, multianewarray, ifnull, ifnonnull and goto_w. What follows jsr_w is reserved.
+#[tactic(auto, unfolding(crate::specs::Table::extended))]
+pub(crate) fn extended(pc: u32, opcode: u8, operands: &[u8]) -> Result<(Insn, &[u8]), Fault>
+    ensures { Gives (λ x. (x.0, x.1.now)) result (extended pc opcode operands.now) }
+{
+    match opcode {
+        196 => wide(operands),
+        197 => multi_array(operands),
+        198 | 199 => branch(pc, opcode, operands),
+        200 => goto_w(pc, operands),
+        201 => Err(Fault::Unsupported(opcode)),
+        _ => Err(Fault::BadCode),
+    }
+}
