@@ -1,0 +1,12 @@
+pub mod RowTests
+pub mod Bytes
+pub mod Forms
+pub mod Rows
+pub mod Families
+pub mod Groups
+pub mod Again
+pub mod Decode
+pub mod Targets
+pub mod SwitchFront
+pub mod OneSpelling
+pub mod Written

@@ -1,0 +1,9 @@
+use Rattle.std.proofs.Common.{◌≡◌, ◌++◌, take, All}
+use Rattle.std.specs.List.{flat_map}
+use Rattle.image_instr.specs.Insn.{target_bytes, HasRowRanges}
+use Rattle.image_instr.proofs.write.all_targets.Given as goal
+
+-- so many rows are written
+abbrev pub invariant-loop-each : goal.invariant-loop-each
+invariant-loop-each l =
+    record { written : l.out.items ≡ l.fn.out.items ++ flat_map target_bytes (take l.each-index l.rows); ranges : All HasRowRanges (take l.each-index l.rows) }

@@ -1,0 +1,4 @@
+pub mod Insn
+pub mod Reading
+pub mod Effect
+pub mod Switch

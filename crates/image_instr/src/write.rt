@@ -1,0 +1,288 @@
+//! An instruction is appended to code, with its rows.
+
+ghost use Rattle.std.specs.Prelude.{◌≡◌, ◌+◌, ◌*◌, ◌<◌, ◌≤◌, [], ◌∷◌, ◌++◌, length, take, vec_len, All, OnOk, OnErr};
+ghost use Rattle.std.specs.List.{flat_map};
+ghost use Rattle.image_instr.specs.Insn.{u2, i1, i2, i4, index as index_bytes, halves as halves_bytes, row_bytes, target_bytes, insn_bytes, KeepsLimits, AreRowsOf, HasRanges, HasRowRanges, IsInsn};
+
+use crate::code::*;
+use crate::insn::{MInsn, SwitchRow};
+use std::alloc::AllocError;
+
+/// Want of memory.
+pub type Memory = AllocError;
+
+fn bare(opcode: u8, out: &mut Vec<u8>) -> Result<(), Memory>
+    ensures ok { OnOk result (out.new.items ≡ out.old.items ++ (opcode ∷ [])) }
+    ensures err { OnErr result (out.new.items ≡ out.old.items) }
+{
+    out.extend_from_slice(&[opcode])
+}
+
+fn byte(opcode: u8, operand: u8, out: &mut Vec<u8>) -> Result<(), Memory>
+    ensures ok { OnOk result (out.new.items ≡ out.old.items ++ (opcode ∷ operand ∷ [])) }
+    ensures err { OnErr result (out.new.items ≡ out.old.items) }
+{
+    out.extend_from_slice(&[opcode, operand])
+}
+
+fn short(opcode: u8, operand: u16, out: &mut Vec<u8>) -> Result<(), Memory>
+    ensures ok { OnOk result (out.new.items ≡ out.old.items ++ (opcode ∷ u2 operand)) }
+    ensures err { OnErr result (out.new.items ≡ out.old.items) }
+{
+    let [high, low] = operand.to_be_bytes();
+    out.extend_from_slice(&[opcode, high, low])
+}
+
+fn int(opcode: u8, operand: i32, out: &mut Vec<u8>) -> Result<(), Memory>
+    ensures ok { OnOk result (out.new.items ≡ out.old.items ++ (opcode ∷ i4 operand)) }
+    ensures err { OnErr result (out.new.items ≡ out.old.items) }
+{
+    let [a, b, c, d] = operand.cast_unsigned().to_be_bytes();
+    out.extend_from_slice(&[opcode, a, b, c, d])
+}
+
+fn index(opcode: u8, operand: u16, out: &mut Vec<u8>) -> Result<(), Memory>
+    ensures ok { OnOk result (out.new.items ≡ out.old.items ++ (opcode ∷ index_bytes operand)) }
+    ensures err { OnErr result (out.new.items ≡ out.old.items) }
+{
+    if operand < 255 {
+        return out.extend_from_slice(&[opcode, operand as u8]);
+    }
+    let [high, low] = operand.to_be_bytes();
+    out.extend_from_slice(&[opcode, 255, high, low])
+}
+
+fn index_short(opcode: u8, operand: u16, amount: i16, out: &mut Vec<u8>) -> Result<(), Memory>
+    ensures ok { OnOk result (out.new.items ≡ out.old.items ++ (opcode ∷ (index_bytes operand ++ i2 amount))) }
+    ensures err { OnErr result (out.new.items ≡ out.old.items) }
+{
+    let [up, down] = amount.cast_unsigned().to_be_bytes();
+    if operand < 255 {
+        return out.extend_from_slice(&[opcode, operand as u8, up, down]);
+    }
+    let [high, low] = operand.to_be_bytes();
+    out.extend_from_slice(&[opcode, 255, high, low, up, down])
+}
+
+fn halves(opcode: u8, m: u8, n: u8, out: &mut Vec<u8>) -> Result<(), Memory>
+    requires { (m < 16) × (n < 16) }
+    ensures ok { OnOk result (out.new.items ≡ out.old.items ++ (opcode ∷ halves_bytes m n)) }
+    ensures err { OnErr result (out.new.items ≡ out.old.items) }
+{
+    out.extend_from_slice(&[opcode, m * 16 + n])
+}
+
+fn short_byte(opcode: u8, operand: u16, count: u8, out: &mut Vec<u8>) -> Result<(), Memory>
+    ensures ok { OnOk result (out.new.items ≡ out.old.items ++ (opcode ∷ (u2 operand ++ count ∷ []))) }
+    ensures err { OnErr result (out.new.items ≡ out.old.items) }
+{
+    let [high, low] = operand.to_be_bytes();
+    out.extend_from_slice(&[opcode, high, low, count])
+}
+
+fn two_shorts(opcode: u8, first: u16, second: u16, out: &mut Vec<u8>) -> Result<(), Memory>
+    ensures ok { OnOk result (out.new.items ≡ out.old.items ++ (opcode ∷ (u2 first ++ u2 second))) }
+    ensures err { OnErr result (out.new.items ≡ out.old.items) }
+{
+    let [a, b] = first.to_be_bytes();
+    let [c, d] = second.to_be_bytes();
+    out.extend_from_slice(&[opcode, a, b, c, d])
+}
+
+fn table_head(
+    opcode: u8,
+    default: u16,
+    low: i32,
+    count: u16,
+    out: &mut Vec<u8>,
+) -> Result<(), Memory>
+    ensures ok { OnOk result (out.new.items ≡ out.old.items ++ (opcode ∷ (u2 default ++ (i4 low ++ u2 count)))) }
+    ensures err { OnErr result (out.new.items ≡ out.old.items) }
+{
+    let [a, b] = default.to_be_bytes();
+    let [c, d, e, f] = low.cast_unsigned().to_be_bytes();
+    let [g, h] = count.to_be_bytes();
+    out.extend_from_slice(&[opcode, a, b, c, d, e, f, g, h])
+}
+
+/// Appends a row: its key and its target.
+fn row(row: SwitchRow, out: &mut Vec<u8>) -> Result<(), Memory>
+    ensures ok { OnOk result (out.new.items ≡ out.old.items ++ row_bytes row) }
+    ensures ranges { HasRowRanges row }
+    ensures err { OnErr result (out.new.items ≡ out.old.items) }
+{
+    let [a, b, c, d] = row.key.cast_unsigned().to_be_bytes();
+    let [high, low] = row.target.to_be_bytes();
+    out.extend_from_slice(&[a, b, c, d, high, low])
+}
+
+/// Appends the target of a row.
+fn target(row: SwitchRow, out: &mut Vec<u8>) -> Result<(), Memory>
+    ensures ok { OnOk result (out.new.items ≡ out.old.items ++ target_bytes row) }
+    ensures ranges { HasRowRanges row }
+    ensures err { OnErr result (out.new.items ≡ out.old.items) }
+{
+    out.extend_from_slice(&row.target.to_be_bytes())
+}
+
+/// Appends rows; a refusal may leave some of them.
+fn all_rows(rows: &[SwitchRow], out: &mut Vec<u8>) -> Result<(), Memory>
+    ensures ok { OnOk result (out.new.items ≡ out.old.items ++ flat_map row_bytes rows.now) }
+    ensures ranges { OnOk result (All HasRowRanges rows.now) }
+    ensures err { OnErr result (take (vec_len out.old) out.new.items ≡ out.old.items) }
+{
+    for each in rows {
+        row(*each, out)?;
+    }
+    Ok(())
+}
+
+/// Appends the targets of rows; a refusal may leave some of them.
+fn all_targets(rows: &[SwitchRow], out: &mut Vec<u8>) -> Result<(), Memory>
+    ensures ok { OnOk result (out.new.items ≡ out.old.items ++ flat_map target_bytes rows.now) }
+    ensures ranges { OnOk result (All HasRowRanges rows.now) }
+    ensures err { OnErr result (take (vec_len out.old) out.new.items ≡ out.old.items) }
+{
+    for each in rows {
+        target(*each, out)?;
+    }
+    Ok(())
+}
+
+/// Appends a switch with its rows.
+fn switch(
+    opcode: u8,
+    default: u16,
+    count: u16,
+    rows: &[SwitchRow],
+    out: &mut Vec<u8>,
+) -> Result<(), Memory>
+    ensures ok { OnOk result (out.new.items ≡ out.old.items ++ (opcode ∷ (u2 default ++ (u2 count ++ flat_map row_bytes rows.now)))) }
+    ensures ranges { OnOk result (All HasRowRanges rows.now) }
+    ensures err { OnErr result (out.new.items ≡ out.old.items) }
+{
+    let size = out.len();
+    two_shorts(opcode, default, count, out)?;
+    if let Err(memory) = all_rows(rows, out) {
+        out.truncate(size);
+        return Err(memory);
+    }
+    Ok(())
+}
+
+/// Appends a table with the targets of its rows.
+fn table(
+    opcode: u8,
+    default: u16,
+    low: i32,
+    count: u16,
+    rows: &[SwitchRow],
+    out: &mut Vec<u8>,
+) -> Result<(), Memory>
+    ensures ok { OnOk result (out.new.items ≡ out.old.items ++ (opcode ∷ (u2 default ++ (i4 low ++ (u2 count ++ flat_map target_bytes rows.now))))) }
+    ensures ranges { OnOk result (All HasRowRanges rows.now) }
+    ensures err { OnErr result (out.new.items ≡ out.old.items) }
+{
+    let size = out.len();
+    table_head(opcode, default, low, count, out)?;
+    if let Err(memory) = all_targets(rows, out) {
+        out.truncate(size);
+        return Err(memory);
+    }
+    Ok(())
+}
+
+/// Appends the bytes of an instruction with its rows.
+fn append(insn: MInsn, rows: &[SwitchRow], out: &mut Vec<u8>) -> Result<(), Memory>
+    requires limits { KeepsLimits insn }
+    requires rows_of { AreRowsOf insn rows.now }
+    ensures ok { OnOk result (out.new.items ≡ out.old.items ++ insn_bytes insn rows.now) }
+    ensures err { OnErr result (out.new.items ≡ out.old.items) }
+    ensures ranges { HasRanges insn }
+    ensures row_ranges { OnOk result (All HasRowRanges rows.now) }
+{
+    match insn {
+        MInsn::Const1 { value } => short(0x01, value.cast_unsigned(), out),
+        MInsn::Const2 { value } => int(0x02, value, out),
+        MInsn::Small1 { value } => byte(0x03, value.cast_unsigned(), out),
+        MInsn::Small2 { value } => byte(0x04, value.cast_unsigned(), out),
+        MInsn::Mid2 { value } => short(0x05, value.cast_unsigned(), out),
+        MInsn::Null => bare(0x06, out),
+        MInsn::Load { kind, local } => index(load_code(kind), local, out),
+        MInsn::Store { kind, local } => index(store_code(kind), local, out),
+        MInsn::RClear { local } => index(0x09, local, out),
+        MInsn::Inc {
+            width,
+            local,
+            amount,
+        } => index_short(inc_code(width), local, amount, out),
+        MInsn::RDupX { m, n } => halves(0x10, m, n, out),
+        MInsn::DupX { m, n } => halves(0x11, m, n, out),
+        MInsn::RPop { count } => byte(0x12, count, out),
+        MInsn::Pop { count } => byte(0x13, count, out),
+        MInsn::RSwap => bare(0x14, out),
+        MInsn::Swap { m, n } => halves(0x15, m, n, out),
+        MInsn::Drop { above } => index(0x16, above, out),
+        MInsn::Bin { width, operation } => bare(bin_code(width) + operation_code(operation), out),
+        MInsn::Neg { width } => bare(neg_code(width), out),
+        MInsn::Sx => bare(0x41, out),
+        MInsn::Zx => bare(0x42, out),
+        MInsn::Sb => bare(0x43, out),
+        MInsn::Bit => bare(0x44, out),
+        MInsn::Jz {
+            width,
+            condition,
+            target,
+        } => short(jz_code(width) + condition_code(condition), target, out),
+        MInsn::JCmp {
+            width,
+            condition,
+            target,
+        } => short(jcmp_code(width) + condition_code(condition), target, out),
+        MInsn::RJ { test, target } => short(test_code(test), target, out),
+        MInsn::Goto { target } => short(0x74, target, out),
+        MInsn::Switch {
+            width,
+            default,
+            count,
+        } => switch(switch_code(width), default, count, rows, out),
+        MInsn::Table {
+            width,
+            default,
+            low,
+            count,
+        } => table(table_code(width), default, low, count, rows, out),
+        MInsn::Ret { result } => bare(ret_code(result), out),
+        MInsn::GetS { kind, place } => index(get_static_code(kind), place, out),
+        MInsn::PutS { kind, place } => index(put_static_code(kind), place, out),
+        MInsn::GetF { kind, place } => index(get_field_code(kind), place, out),
+        MInsn::PutF { kind, place } => index(put_field_code(kind), place, out),
+        MInsn::NewArr { width, id } => short(new_array_code(width), id, out),
+        MInsn::Multi { id, dims } => short_byte(0x92, id, dims, out),
+        MInsn::ALen => bare(0x93, out),
+        MInsn::ALoad { element, width } => bare(load_element_code(element, width), out),
+        MInsn::AStore { element, width } => bare(store_element_code(element, width), out),
+        MInsn::New { id } => short(0xb0, id, out),
+        MInsn::Cast { id } => short(0xb1, id, out),
+        MInsn::Inst { id } => short(0xb2, id, out),
+        MInsn::Throw => bare(0xb3, out),
+        MInsn::CallS { method } => short(0xb4, method, out),
+        MInsn::CallX { method } => short(0xb5, method, out),
+        MInsn::CallV { selector } => short(0xb6, selector, out),
+        MInsn::CallI { selector, id } => two_shorts(0xb7, selector, id, out),
+    }
+}
+
+/// Appends the bytes of an instruction, with the rows of a switch. `decode_at` reads it again at the
+/// place where it was appended.
+pub fn encode(insn: MInsn, rows: &[SwitchRow], out: &mut Vec<u8>) -> Result<(), Memory>
+    // The operands keep to the limits, and the rows are those of the instruction.
+    requires limits { KeepsLimits insn }
+    requires rows_of { AreRowsOf insn rows.now }
+
+    ensures ok { OnOk result (out.new.items ≡ out.old.items ++ insn_bytes insn rows.now) }
+    ensures is_insn { OnOk result (IsInsn insn rows.now) }
+    ensures err { OnErr result (out.new.items ≡ out.old.items) }
+{
+    append(insn, rows, out)
+}
