@@ -1,6 +1,8 @@
 //! What a run shows: its dialogue with a console, its ending, and the input that it leaves. The typed
-//! machine and the machine of the infusions speak of the same record. The definitions are in specs/;
-//! the one function carries their laws. This crate stands on `std` alone.
+//! machine and the machine of the infusions speak of the same record, and run in the same sense. The
+//! definitions are in specs/; the one function carries laws of dialogues,
+//! and proofs/ has those of runs: a run ends in one way at most, and a machine that follows another ends
+//! as it does. This crate stands on `std` alone.
 #![tactic(auto)]
 
 ghost use Rattle.std.specs.Prelude.{◌≡◌, ℕ, List, [], ◌++◌};

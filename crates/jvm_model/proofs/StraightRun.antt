@@ -13,7 +13,8 @@ use Rattle.class_file.proofs.StraightCode.{front_insn-size}
 use Rattle.jvm_model.specs.State.{Whole, Frame, State}
 use Rattle.jvm_model.specs.Program.{Program, Placed}
 use Rattle.jvm_model.specs.ProgramOf.{family_of, family_in, code_of_method, program_of}
-use Rattle.jvm_model.specs.Machine.{Done, Spent, Goes, Ends, Running, Over, low_byte, step_placed, after_step, advance, run_from, start_of, EndsSo}
+use Rattle.dialogue.specs.Natives.{low_byte}
+use Rattle.jvm_model.specs.Machine.{Done, Spent, Goes, Ends, Running, Over, step_placed, after_step, advance, run_from, start_of, EndsSo}
 use Rattle.jvm_model.specs.StraightMeaning.{outputs, HasStraightMain}
 
 -- ---- main is the code

@@ -11,6 +11,7 @@ use Rattle.cell_num.specs.Arithmetic.{applied}
 use Rattle.cell_num.specs.Conditions.{is_met}
 use Rattle.cell_num.specs.Conversions.{converted}
 use Rattle.dialogue.specs.Dialogue.{Item, Get, putting}
+use Rattle.dialogue.specs.Natives.{low_byte, next_byte, behind_byte}
 use Rattle.dialogue.specs.Outcome.{Outcome}
 use Rattle.jvm_model.specs.State.{Value, Whole, Frame, State}
 use Rattle.jvm_model.specs.Program.{Native, WriteByte, PrintNumber, ReadByte, Callee, OfLibrary, StackForm, Pop, Pop2, Dup, DupX1, DupX2, Dup2, Dup2X1, Dup2X2, Swap, Family, Nop, Const, Load, Store, Inc, Stack, Bin, Negate, Convert, If, IfCmp, Goto, Switch, CallStatic, Return, Placed, Program}
@@ -27,10 +28,6 @@ pub data Step : Type 0 where
   Goes : (items : List Item) (next : State) → Step
   Ends : (ending : Ending) → Step
   Stuck : Step
-
--- the low eight bits of a whole number
-abbrev pub low_byte : ℤ → ℕ
-low_byte number = cast_unsigned w32 number % 256
 
 -- ---- parts of a step
 
@@ -142,16 +139,7 @@ step_show budget state frame others next bytes (Whole number ∷ operands) =
     within_budget budget state (Goes (putting (bytes number)) (with_frame (ticked state) (record frame { pc = next; operands = operands }) others))
 step_show budget state frame others next bytes _ = Stuck
 
--- the value of the next byte of the input, or -1 at its end
-abbrev pub next_byte : List ℕ → ℤ
-next_byte [] = negsuc 0
-next_byte (byte ∷ input) = pos byte
-
-abbrev pub behind_byte : List ℕ → List ℕ
-behind_byte [] = []
-behind_byte (byte ∷ input) = input
-
--- read()I gives it
+-- read()I gives the value of the next byte of the input, or -1 at its end
 abbrev pub step_read : ℕ → State → Frame → List Frame → ℕ → Step
 step_read budget state frame others next =
     within_budget budget state

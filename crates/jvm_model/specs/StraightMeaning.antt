@@ -6,7 +6,7 @@ use Rattle.class_file.specs.declared.record.Member.{Member}
 use Rattle.class_file.specs.declared.straight.StraightInsn.{StraightInsn}
 use Rattle.class_file.specs.declared.straight.StraightInsn.TheVariants.{Push, Write, Return}
 use Rattle.class_file.specs.Straight.{IsStraight}
-use Rattle.jvm_model.specs.Machine.{low_byte}
+use Rattle.dialogue.specs.Natives.{low_byte}
 
 -- the bytes that are written from these operands on, the top first
 abbrev pub outputs : List ℤ → List StraightInsn → List ℕ

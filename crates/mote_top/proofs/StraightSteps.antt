@@ -12,7 +12,7 @@ use Rattle.class_file.specs.Pool.{Places}
 use Rattle.class_file.specs.Straight.{front_insn, CodeIs, IsBalanced, IsStraight}
 use Rattle.host_face.specs.Talk.{Talked, BrokeOff}
 use Rattle.host_face.proofs.TalkLemmas.{Talked-nothing, Talked-then, BrokeOff-then}
-use Rattle.jvm_model.specs.Machine.{low_byte}
+use Rattle.dialogue.specs.Natives.{low_byte}
 use Rattle.jvm_model.specs.StraightMeaning.{outputs}
 use Rattle.jvm_model.proofs.CodeIsOne.{code_is_one}
 

@@ -3,7 +3,7 @@ ghost use Rattle.dialogue.specs.Dialogue.{putting};
 ghost use Rattle.class_file.specs.declared.straight.StraightInsn.{StraightInsn as Insn};
 ghost use Rattle.class_file.specs.Straight.{IsStraight, CodeIs};
 ghost use Rattle.host_face.specs.Talk.{Says};
-ghost use Rattle.jvm_model.specs.Machine.{low_byte as low_byte_of};
+ghost use Rattle.dialogue.specs.Natives.{low_byte as low_byte_of};
 ghost use Rattle.jvm_model.specs.StraightMeaning.{outputs};
 
 use class_file::{CodeAttr, Pool, StraightInsn, straight_insn};

@@ -7,7 +7,7 @@ use Rattle.dialogue.specs.Dialogue.{Item}
 use Rattle.class_file.specs.declared.straight.StraightInsn.TheVariants.{Push, Write, Return}
 use Rattle.class_file.specs.Straight.{front_insn}
 use Rattle.class_file.proofs.StraightCode.{front_insn-size}
-use Rattle.jvm_model.specs.Machine.{low_byte}
+use Rattle.dialogue.specs.Natives.{low_byte}
 use Rattle.host_face.proofs.TalkLemmas.{Talked-put, BrokeOff-put}
 use Rattle.mote_top.proofs.StraightSteps.{Along, Along-start, Along-goes_on, Along-room, Along-operand, Along-push, Along-write, Along-broke, Along-return, front_at, none_at, handed_on}
 use Rattle.mote_top.proofs.run.run.Goals as goal

@@ -1,0 +1,16 @@
+-- What the natives of mote/Console show and read.
+use Rattle.std.specs.Prelude.{ℕ, ℤ, pos, negsuc, ◌%◌, List, [], ◌∷◌}
+use Rattle.std.specs.Int.{w32, cast_unsigned}
+
+-- write shows the low eight bits of a whole number
+abbrev pub low_byte : ℤ → ℕ
+low_byte number = cast_unsigned w32 number % 256
+
+-- read gives the value of the next byte of the input, or -1 at its end
+abbrev pub next_byte : List ℕ → ℤ
+next_byte [] = negsuc 0
+next_byte (byte ∷ input) = pos byte
+
+abbrev pub behind_byte : List ℕ → List ℕ
+behind_byte [] = []
+behind_byte (byte ∷ input) = input
