@@ -1,4 +1,5 @@
 pub mod Dialogue
+pub mod Limits
 pub mod Natives
 pub mod Outcome
 pub mod Run

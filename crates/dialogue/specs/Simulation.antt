@@ -12,24 +12,28 @@ pub record Reaches {State Ending : Type 0} (machine : Machine State Ending) (sai
   pub running : run_from machine (Running said state) steps ≡ Running (said ++ items) next
   pub holds : P next
 
--- the machine ends from the state, and says nothing more
-pub record Finishes {State Ending : Type 0} (machine : Machine State Ending) (said : List Item) (state : State) (ending : Ending) (left : List ℕ) : Type 0 where
+-- the machine ends from the state, in a way of which P holds, and says nothing more
+pub record Finishes {State Ending : Type 0} (machine : Machine State Ending) (said : List Item) (state : State) (P : Ending → Type 0) (left : List ℕ) : Type 0 where
   pub steps : ℕ
   pub last : State
+  pub ending : Ending
   pub over : run_from machine (Running said state) steps ≡ Over said last ending
+  pub holds : P ending
   pub same_left : machine.left last ≡ left
 
 -- what the second machine does for a step of the first
-abbrev pub Matches : {First E Second F : Type 0} → Machine Second F → (E → F) → (First → Second → Type 0) → List ℕ → Second → Step First E → Type 0
-Matches second ending_of Belong left state (Goes items next) = (said : List Item) → Reaches second said state items (Belong next)
-Matches second ending_of Belong left state (Ends ending) = (said : List Item) → Finishes second said state (ending_of ending) left
-Matches second ending_of Belong left state Stuck = Unit {0}
+abbrev pub Matches : {First E Second F : Type 0} → Machine Second F → (E → F → Type 0) → (First → Second → Type 0) → List ℕ → Second → Step First E → Type 0
+Matches second Same Belong left state (Goes items next) = (said : List Item) → Reaches second said state items (Belong next)
+Matches second Same Belong left state (Ends ending) = (said : List Item) → Finishes second said state (Same ending) left
+Matches second Same Belong left state Stuck = Unit {0}
 
 -- the second machine follows the first
-abbrev pub Follows : {First E Second F : Type 0} → Machine First E → Machine Second F → (E → F) → (First → Second → Type 0) → Type 0
-Follows {First} {E} {Second} {F} first second ending_of Belong =
-    (a : First) (b : Second) → Belong a b → Matches second ending_of Belong (first.left a) b (first.step a)
+abbrev pub Follows : {First E Second F : Type 0} → Machine First E → Machine Second F → (E → F → Type 0) → (First → Second → Type 0) → Type 0
+Follows {First} {E} {Second} {F} first second Same Belong =
+    (a : First) (b : Second) → Belong a b → Matches second Same Belong (first.left a) b (first.step a)
 
--- the outcome with another ending
-abbrev pub with_ending : {E F : Type 0} → (E → F) → Outcome E → Outcome F
-with_ending ending_of outcome = record { ending = ending_of outcome.ending; dialogue = outcome.dialogue; left = outcome.left }
+-- two runs show the same: dialogues and input left are equal, and the endings are the same
+pub record SameOutcome {E F : Type 0} (Same : E → F → Type 0) (a : Outcome E) (b : Outcome F) : Type 0 where
+  pub ending : Same a.ending b.ending
+  pub dialogue : a.dialogue ≡ b.dialogue
+  pub left : a.left ≡ b.left
