@@ -9,7 +9,7 @@ use Rattle.class_file.specs.declared.pool.Const.TheVariants.{Utf8, Integer, Floa
 use Rattle.class_file.specs.Utf8.{IsModifiedUtf8}
 use Rattle.class_file.specs.Pool.{FitsEntry, entry_bytes}
 use Rattle.class_file.specs.Layout.{u2, u4}
-use Rattle.class_file.specs.FirstForm.{is_first_entry}
+use Rattle.class_file.specs.OneMain.{is_plain_entry}
 use Rattle.class_file.specs.Reading.{◌>>=◌, u2_at, u4_at, slice_at, pair_at, is_modified_utf8, text_at, tagged_at, const_at}
 use Rattle.class_file.proofs.Steps.{IsBytes, IsBytes-rest, bind_ok, passes, ok_is, then_ok, Takes, Takes-then, u2_takes, u2_again, u4_takes, u4_again, pair_takes, pair_again, slice_takes, slice_again}
 use Rattle.class_file.proofs.Texts.{text_takes, text_again}
@@ -35,11 +35,11 @@ text_read text rest lt is_text =
 
 -- ---- entries
 
--- the entry spelled at the front, one of the form
+-- the entry spelled at the front, of a kind that is read
 pub record TakesEntry (bytes : List ℕ) (x : Const × List ℕ) : Type 0 where
   pub takes : Takes bytes (entry_bytes x.0) x.1
   pub fits : FitsEntry x.0
-  pub first : is_first_entry x.0 ≡ true
+  pub plain : is_plain_entry x.0 ≡ true
 
 -- a tag in front
 tagged : (tag : ℕ) (bytes text rest : List ℕ) → Takes bytes text rest → Takes (tag ∷ bytes) (tag ∷ text) rest
@@ -49,7 +49,7 @@ takes_utf8 : (bytes : List ℕ) (x : Const × List ℕ) → IsBytes bytes → (t
 takes_utf8 bytes x fits e =
     let a = bind_ok (text_at bytes) _ x e in
     let t = text_taken bytes a.0 fits a.1 in
-    subst (TakesEntry (1 ∷ bytes)) (ok_is (Utf8 a.0.0, a.0.1) x a.2) (record { takes = tagged 1 bytes (u2 (length a.0.0) ++ a.0.0) a.0.1 t.0; fits = (t.1, t.2); first = refl })
+    subst (TakesEntry (1 ∷ bytes)) (ok_is (Utf8 a.0.0, a.0.1) x a.2) (record { takes = tagged 1 bytes (u2 (length a.0.0) ++ a.0.0) a.0.1 t.0; fits = (t.1, t.2); plain = refl })
 
 signed_fits : (n : ℕ) → n < 2 ^ 32 → FitsSigned w32 (cast_signed w32 n)
 signed_fits n lt = search (rules, ints)
@@ -64,25 +64,25 @@ takes_integer bytes x fits e =
     let t = u4_takes bytes a.0 fits a.1 in
     let bits : cast_unsigned w32 (cast_signed w32 a.0.0) ≡ a.0.0 = of_z-to_z w32 a.0.0 t.1 in
     let same : Takes bytes (u4 (cast_unsigned w32 (cast_signed w32 a.0.0))) a.0.1 = subst (λ (n : ℕ). Takes bytes (u4 n) a.0.1) (sym bits) t.0 in
-    subst (TakesEntry (3 ∷ bytes)) (ok_is (Integer (cast_signed w32 a.0.0), a.0.1) x a.2) (record { takes = tagged 3 bytes (u4 (cast_unsigned w32 (cast_signed w32 a.0.0))) a.0.1 same; fits = signed_fits a.0.0 t.1; first = refl })
+    subst (TakesEntry (3 ∷ bytes)) (ok_is (Integer (cast_signed w32 a.0.0), a.0.1) x a.2) (record { takes = tagged 3 bytes (u4 (cast_unsigned w32 (cast_signed w32 a.0.0))) a.0.1 same; fits = signed_fits a.0.0 t.1; plain = refl })
 
 takes_class : (bytes : List ℕ) (x : Const × List ℕ) → IsBytes bytes → (u2_at bytes >>= λ name. Ok (Class name.0, name.1)) ≡ Ok x → TakesEntry (7 ∷ bytes) x
 takes_class bytes x fits e =
     let a = bind_ok (u2_at bytes) _ x e in
     let t = u2_takes bytes a.0 fits a.1 in
-    subst (TakesEntry (7 ∷ bytes)) (ok_is (Class a.0.0, a.0.1) x a.2) (record { takes = tagged 7 bytes (u2 a.0.0) a.0.1 t.0; fits = t.1; first = refl })
+    subst (TakesEntry (7 ∷ bytes)) (ok_is (Class a.0.0, a.0.1) x a.2) (record { takes = tagged 7 bytes (u2 a.0.0) a.0.1 t.0; fits = t.1; plain = refl })
 
 takes_method : (bytes : List ℕ) (x : Const × List ℕ) → IsBytes bytes → (pair_at bytes >>= λ pair. Ok (Method pair.0.0 pair.0.1, pair.1)) ≡ Ok x → TakesEntry (10 ∷ bytes) x
 takes_method bytes x fits e =
     let a = bind_ok (pair_at bytes) _ x e in
     let t = pair_takes bytes a.0 fits a.1 in
-    subst (TakesEntry (10 ∷ bytes)) (ok_is (Method a.0.0.0 a.0.0.1, a.0.1) x a.2) (record { takes = tagged 10 bytes (u2 a.0.0.0 ++ u2 a.0.0.1) a.0.1 t.0; fits = (t.1, t.2); first = refl })
+    subst (TakesEntry (10 ∷ bytes)) (ok_is (Method a.0.0.0 a.0.0.1, a.0.1) x a.2) (record { takes = tagged 10 bytes (u2 a.0.0.0 ++ u2 a.0.0.1) a.0.1 t.0; fits = (t.1, t.2); plain = refl })
 
 takes_name_and_type : (bytes : List ℕ) (x : Const × List ℕ) → IsBytes bytes → (pair_at bytes >>= λ pair. Ok (NameAndType pair.0.0 pair.0.1, pair.1)) ≡ Ok x → TakesEntry (12 ∷ bytes) x
 takes_name_and_type bytes x fits e =
     let a = bind_ok (pair_at bytes) _ x e in
     let t = pair_takes bytes a.0 fits a.1 in
-    subst (TakesEntry (12 ∷ bytes)) (ok_is (NameAndType a.0.0.0 a.0.0.1, a.0.1) x a.2) (record { takes = tagged 12 bytes (u2 a.0.0.0 ++ u2 a.0.0.1) a.0.1 t.0; fits = (t.1, t.2); first = refl })
+    subst (TakesEntry (12 ∷ bytes)) (ok_is (NameAndType a.0.0.0 a.0.0.1, a.0.1) x a.2) (record { takes = tagged 12 bytes (u2 a.0.0.0 ++ u2 a.0.0.1) a.0.1 t.0; fits = (t.1, t.2); plain = refl })
 
 -- which branch a test chose
 chosen : {A : Type 0} (b : Bool) (x y z : A) → cond b x y ≡ z → ((b ≡ true) × (x ≡ z)) ⊎ ((b ≡ false) × (y ≡ z))
@@ -122,19 +122,19 @@ unfolding const_at
 const_takes [] x fits e = absurd cc
 const_takes (tag ∷ bytes) x fits e = tagged_takes tag bytes x (IsBytes-rest tag bytes fits) e
 
-pub const_again : (entry : Const) (rest : List ℕ) → FitsEntry entry → is_first_entry entry ≡ true → const_at (entry_bytes entry ++ rest) ≡ Ok (entry, rest)
+pub const_again : (entry : Const) (rest : List ℕ) → FitsEntry entry → is_plain_entry entry ≡ true → const_at (entry_bytes entry ++ rest) ≡ Ok (entry, rest)
 unfolding const_at tagged_at
-const_again (Utf8 text) rest fits first = ap const_at (ap (λ (x : List ℕ). 1 ∷ x) (append_assoc (u2 (length text)) text rest)) ∙ then_ok _ _ (text_read text rest fits.0 fits.1) refl
-const_again (Integer value) rest fits first = then_ok _ _ (u4_again (cast_unsigned w32 value) rest (unsigned_fits value fits)) (ap (λ (z : ℤ). Ok (Integer z, rest)) (to_z-of_z w32 value fits))
-const_again (Float bits) rest fits first = absurd cc
-const_again (Long bits) rest fits first = absurd cc
-const_again (Double bits) rest fits first = absurd cc
-const_again (Class name) rest fits first = then_ok _ _ (u2_again name rest fits) refl
-const_again (String text) rest fits first = absurd cc
-const_again (Field class name_and_type) rest fits first = absurd cc
-const_again (Method class name_and_type) rest fits first = then_ok _ _ (pair_again class name_and_type rest fits.0 fits.1) refl
-const_again (InterfaceMethod class name_and_type) rest fits first = absurd cc
-const_again (NameAndType name descriptor) rest fits first = then_ok _ _ (pair_again name descriptor rest fits.0 fits.1) refl
-const_again (MethodHandle kind index) rest fits first = absurd cc
-const_again (MethodType descriptor) rest fits first = absurd cc
-const_again (InvokeDynamic bootstrap name_and_type) rest fits first = absurd cc
+const_again (Utf8 text) rest fits plain = ap const_at (ap (λ (x : List ℕ). 1 ∷ x) (append_assoc (u2 (length text)) text rest)) ∙ then_ok _ _ (text_read text rest fits.0 fits.1) refl
+const_again (Integer value) rest fits plain = then_ok _ _ (u4_again (cast_unsigned w32 value) rest (unsigned_fits value fits)) (ap (λ (z : ℤ). Ok (Integer z, rest)) (to_z-of_z w32 value fits))
+const_again (Float bits) rest fits plain = absurd cc
+const_again (Long bits) rest fits plain = absurd cc
+const_again (Double bits) rest fits plain = absurd cc
+const_again (Class name) rest fits plain = then_ok _ _ (u2_again name rest fits) refl
+const_again (String text) rest fits plain = absurd cc
+const_again (Field class name_and_type) rest fits plain = absurd cc
+const_again (Method class name_and_type) rest fits plain = then_ok _ _ (pair_again class name_and_type rest fits.0 fits.1) refl
+const_again (InterfaceMethod class name_and_type) rest fits plain = absurd cc
+const_again (NameAndType name descriptor) rest fits plain = then_ok _ _ (pair_again name descriptor rest fits.0 fits.1) refl
+const_again (MethodHandle kind index) rest fits plain = absurd cc
+const_again (MethodType descriptor) rest fits plain = absurd cc
+const_again (InvokeDynamic bootstrap name_and_type) rest fits plain = absurd cc

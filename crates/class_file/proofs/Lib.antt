@@ -1,4 +1,3 @@
-pub mod StraightCode
 pub mod Texts
 pub mod Linked
 pub mod Loop
@@ -7,7 +6,7 @@ pub mod Steps
 pub mod Entries
 pub mod Places
 pub mod NameTests
-pub mod Members
+pub mod MainMethod
 pub mod Refusals
 pub mod Class
 pub mod ReadingLaws

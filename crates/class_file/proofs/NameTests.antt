@@ -4,7 +4,7 @@ use Rattle.std.specs.Prelude.{IsSome, IsSomeAnd}
 use Rattle.std.proofs.lemmas.Bool.{and_parts, and_from, not-true, not_from_false}
 use Rattle.std.proofs.lemmas.Slice.Eq.{bytes_eq-Decides}
 use Rattle.class_file.specs.Relation.{is_array_name}
-use Rattle.class_file.specs.FirstForm.{is_reserved}
+use Rattle.class_file.specs.OneMain.{is_reserved}
 use Rattle.class_file.specs.Reading.{is_named, is_own_name}
 
 pub named_takes : (name : List ℕ) (found : Option (List ℕ)) → is_named name found ≡ true → found ≡ Some name

@@ -6,7 +6,7 @@ use Rattle.class_file.specs.declared.record.ClassFile.{ClassFile}
 use Rattle.class_file.specs.declared.refusal.ReadRefusal.{ReadRefusal}
 use Rattle.class_file.specs.declared.refusal.ReadRefusal.TheVariants.{NotClass, Unbuilt, Memory}
 use Rattle.class_file.specs.Layout.{magic}
-use Rattle.class_file.specs.FirstForm.{IsFirstForm}
+use Rattle.class_file.specs.OneMain.{IsOneMain}
 use Rattle.class_file.specs.Reading.{class_of}
 use Rattle.class_file.proofs.Steps.{IsBytes}
 use Rattle.class_file.proofs.Refusals.{body_other}
@@ -45,17 +45,17 @@ begins : (bytes : List ℕ) (b : Bool) → bytes_eq (take 4 bytes) magic ≡ b �
 begins bytes true e unbuilt = (bytes_eq-Decides (take 4 bytes) magic).0 e
 begins bytes false e unbuilt = absurd (errors_apart (sym (not_class bytes e) ∙ unbuilt))
 
-left_unbuilt : (bytes : List ℕ) (r : Result ClassFile ReadRefusal) → IsBytes bytes → class_of bytes ≡ r → take 4 bytes ≡ magic → ((file : ClassFile) → IsFirstForm bytes file → ⊥) → class_of bytes ≡ Err Unbuilt
+left_unbuilt : (bytes : List ℕ) (r : Result ClassFile ReadRefusal) → IsBytes bytes → class_of bytes ≡ r → take 4 bytes ≡ magic → ((file : ClassFile) → IsOneMain bytes file → ⊥) → class_of bytes ≡ Err Unbuilt
 left_unbuilt bytes (Ok file) fits e is none = absurd (none file (class_takes bytes file fits e))
 left_unbuilt bytes (Err NotClass) fits e is none = absurd ((no_class_exactly bytes).0 e is)
 left_unbuilt bytes (Err Unbuilt) fits e is none = e
 left_unbuilt bytes (Err Memory) fits e is none = absurd (body_other Memory unbuilt_is_not_memory (drop 4 bytes) (sym (class_behind bytes (front_is bytes is)) ∙ e))
 
-pub unbuilt_exactly : (bytes : List ℕ) → IsBytes bytes → (class_of bytes ≡ Err Unbuilt) ↔ ((take 4 bytes ≡ magic) × ((file : ClassFile) → IsFirstForm bytes file → ⊥))
+pub unbuilt_exactly : (bytes : List ℕ) → IsBytes bytes → (class_of bytes ≡ Err Unbuilt) ↔ ((take 4 bytes ≡ magic) × ((file : ClassFile) → IsOneMain bytes file → ⊥))
 unbuilt_exactly bytes fits = (
   λ e. (begins bytes (bytes_eq (take 4 bytes) magic) refl e, λ file is. is_ok_unbuilt file (sym (class_again bytes file is) ∙ e)),
   λ h. left_unbuilt bytes (class_of bytes) fits refl h.0 h.1,
 )
 
-pub form_exactly : (bytes : List ℕ) (file : ClassFile) → IsBytes bytes → (class_of bytes ≡ Ok file) ↔ IsFirstForm bytes file
+pub form_exactly : (bytes : List ℕ) (file : ClassFile) → IsBytes bytes → (class_of bytes ≡ Ok file) ↔ IsOneMain bytes file
 form_exactly bytes file fits = (class_takes bytes file fits, class_again bytes file)

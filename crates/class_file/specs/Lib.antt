@@ -1,7 +1,7 @@
 pub mod Utf8
 pub mod Pool
 pub mod Layout
-pub mod Straight
+pub mod Members
 pub mod Relation
-pub mod FirstForm
+pub mod OneMain
 pub mod Reading

@@ -12,9 +12,8 @@ use Rattle.class_file.specs.declared.refusal.ReadRefusal.{ReadRefusal}
 use Rattle.class_file.specs.declared.refusal.ReadRefusal.TheVariants.{NotClass, Unbuilt, Memory}
 use Rattle.class_file.specs.Pool.{Places, utf8_at, class_name_at, is_linked}
 use Rattle.class_file.specs.Layout.{magic}
-use Rattle.class_file.specs.Straight.{is_straight}
 use Rattle.class_file.specs.Relation.{is_interface, are_class_flags, is_array_name}
-use Rattle.class_file.specs.FirstForm.{is_reserved}
+use Rattle.class_file.specs.OneMain.{is_reserved}
 
 infixl 10 ◌>>=◌
 abbrev pub ◌>>=◌ : {A B : Type 0} → Result A ReadRefusal → (A → Result B ReadRefusal) → Result B ReadRefusal
@@ -94,7 +93,7 @@ text_at bytes = do
   text ← slice_at size.0 size.1
   if is_modified_utf8 text.0 then Ok text else Err Unbuilt
 
--- what stands behind the tag of an entry, for the tags of the form
+-- what stands behind the tag of an entry, for the tags that a class file of one main may hold
 unfoldable pub tagged_at : ℕ → List ℕ → Result (Const × List ℕ) ReadRefusal
 tagged_at tag bytes =
     if tag == 1 then (text_at bytes >>= λ text. Ok (Utf8 text.0, text.1))
@@ -149,18 +148,17 @@ code_at bytes = do
   rest ← expect_at 0 inner
   Ok (record { max_stack = max_stack.0; max_locals = max_locals.0; code = code.0; handlers = [] }, rest)
 
--- straight-line code that keeps to the limits of the form
-abbrev pub is_first_code : Places → CodeAttr → Bool
-is_first_code pool code =
-    (nat_le (length code.code) 10000 && nat_le (code.max_stack + code.max_locals) 500) && is_straight pool code.max_stack 0 code.code
+-- code has 1 to 65,535 bytes
+abbrev pub is_code_size : ℕ → Bool
+is_code_size size = nat_lt 0 size && nat_lt size 65536
 
--- a Code attribute of such code
+-- a Code attribute
 unfoldable pub attribute_at : Places → List ℕ → Result (CodeAttr × List ℕ) ReadRefusal
 attribute_at pool bytes = do
   name ← u2_at bytes
   size ← u4_at name.1
   code ← code_at size.1
-  if (is_named (codes "Code") (utf8_at pool name.0) && size.0 == 12 + length code.0.code) && is_first_code pool code.0 then Ok code else Err Unbuilt
+  if (is_named (codes "Code") (utf8_at pool name.0) && size.0 == 12 + length code.0.code) && is_code_size (length code.0.code) then Ok code else Err Unbuilt
 
 -- public static main()V
 abbrev pub is_main : Places → ℕ → ℕ → ℕ → Bool
@@ -190,8 +188,8 @@ is_own_name None = false
 is_own_name (Some name) = not (is_array_name name) && not (is_reserved name)
 
 -- a class below Object, and no interface
-abbrev pub is_first_class : Places → ℕ → ℕ → ℕ → Bool
-is_first_class pool flags this_class super_class =
+abbrev pub is_plain_class : Places → ℕ → ℕ → ℕ → Bool
+is_plain_class pool flags this_class super_class =
     (are_class_flags flags && not (is_interface flags))
     && (is_own_name (class_name_at pool this_class) && is_named (codes "java/lang/Object") (class_name_at pool super_class))
 
@@ -219,7 +217,7 @@ body_of bytes = do
   counts ← counts_at super_class.1
   main ← main_at pool.0 counts
   rest ← end_at main.1
-  if is_first_class pool.0 flags.0 this_class.0 super_class.0 then Ok (
+  if is_plain_class pool.0 flags.0 this_class.0 super_class.0 then Ok (
       record {
         minor = version.0.0;
         major = version.0.1;
@@ -232,6 +230,6 @@ body_of bytes = do
         methods = main.0 ∷ [];
       }) else Err Unbuilt
 
--- the record of a class file of the first form, or the refusal
+-- the record of a class file of one main, or the refusal
 unfoldable pub class_of : List ℕ → Result ClassFile ReadRefusal
 class_of bytes = if bytes_eq (take 4 bytes) magic then body_of (drop 4 bytes) else Err NotClass

@@ -1,4 +1,5 @@
-//! The constant pool (JVMS 4.4), entry by entry. The tags are those of the first form.
+//! The constant pool (JVMS 4.4), entry by entry. The tags are those that a class file of one main may
+//! hold.
 
 ghost use Rattle.std.specs.Prelude.{◌≡◌, Some, map};
 ghost use Rattle.class_file.specs.Pool.{is_linked};

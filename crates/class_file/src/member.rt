@@ -1,13 +1,12 @@
-//! The one method of the first form (JVMS 4.6) with its `Code` attribute (JVMS 4.7.3).
+//! The one method, main (JVMS 4.6), with its `Code` attribute (JVMS 4.7.3).
 
 ghost use Rattle.std.specs.Prelude.{◌≡◌};
-ghost use Rattle.class_file.specs.Reading.{Gives, code_at, is_first_code, attribute_at, is_main, main_at};
+ghost use Rattle.class_file.specs.Reading.{Gives, code_at, is_code_size, attribute_at, is_main, main_at};
 
 use crate::field::{expect_at, slice_at, u2_at, u4_at};
 use crate::pool::Pool;
 use crate::record::{CodeAttr, Member};
 use crate::refusal::ReadRefusal;
-use crate::straight::is_straight;
 use item_list::Items;
 use std::alloc::Global;
 
@@ -31,16 +30,14 @@ fn code_at(alloc: Global, bytes: &[u8]) -> Result<(CodeAttr, &[u8]), ReadRefusal
     Ok((code, rest))
 }
 
-/// The code is straight-line code that keeps to the limits of the form.
-fn is_first_code(pool: &Pool, code: &CodeAttr) -> bool
-    ensures { result ≡ is_first_code pool.now code.now }
+/// Code has 1 to 65,535 bytes (JVMS 4.7.3).
+fn is_code_size(size: usize) -> bool
+    ensures { result ≡ is_code_size size }
 {
-    code.code.len() <= 10_000
-        && u32::from(code.max_stack) + u32::from(code.max_locals) <= 500
-        && is_straight(pool, code.max_stack, code.code.as_slice())
+    0 < size && size < 65_536
 }
 
-/// A `Code` attribute of such code.
+/// A `Code` attribute.
 #[tactic(auto, unfolding(crate::specs::Reading::attribute_at))]
 fn attribute_at<'a>(
     alloc: Global,
@@ -54,7 +51,7 @@ fn attribute_at<'a>(
     let (code, rest) = code_at(alloc, rest)?;
     if !pool.is_text(name, b"Code")
         || size as usize != 12 + code.code.len()
-        || !is_first_code(pool, &code)
+        || !is_code_size(code.code.len())
     {
         return Err(ReadRefusal::Unbuilt);
     }
@@ -68,7 +65,7 @@ fn is_main(pool: &Pool, flags: u16, name: u16, descriptor: u16) -> bool
     flags == 9 && pool.is_text(name, b"main") && pool.is_text(descriptor, b"()V")
 }
 
-/// The method `main` of the form, with one attribute.
+/// The method `main`, with one attribute.
 #[tactic(auto, unfolding(crate::specs::Reading::main_at))]
 pub(crate) fn main_at<'a>(
     alloc: Global,

@@ -1,9 +1,9 @@
-//! What the entries of the constant pool name, and the names that the first form asks for.
+//! What the entries of the constant pool name, and the names that a class file of one main asks for.
 
 ghost use Rattle.std.specs.Prelude.{◌≡◌};
 ghost use Rattle.class_file.specs.Pool.{utf8_at, class_name_at, is_utf8_at, is_class_at, is_name_and_type_at};
 ghost use Rattle.class_file.specs.Relation.{is_array_name};
-ghost use Rattle.class_file.specs.FirstForm.{is_reserved};
+ghost use Rattle.class_file.specs.OneMain.{is_reserved};
 ghost use Rattle.class_file.specs.Reading.{is_named, is_own_name};
 
 use crate::pool::{Const, Pool};

@@ -77,7 +77,7 @@ impl Pool {
     }
 
     /// The name of the class at an index (JVMS 4.4.1), where there is one.
-    pub(crate) fn class_name(&self, index: u16) -> Option<&[u8]>
+    pub fn class_name(&self, index: u16) -> Option<&[u8]>
         ensures { option_copied result ≡ class_name_at self.now index }
     {
         match self.get(index)? {
@@ -87,7 +87,7 @@ impl Pool {
     }
 
     /// The whole number at an index (JVMS 4.4.4), where there is one.
-    pub(crate) fn integer(&self, index: u16) -> Option<i32>
+    pub fn integer(&self, index: u16) -> Option<i32>
         ensures { result ≡ integer_at self.now index }
     {
         match self.get(index)? {

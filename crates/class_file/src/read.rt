@@ -1,9 +1,9 @@
 ghost use Rattle.std.specs.Prelude.{◌≡◌, ◌≢◌, ◌↔◌, Ok, take, IfOk, IsErrOf, ◌&&◌, not};
 ghost use Rattle.std.specs.Str.{bytes_eq};
 ghost use Rattle.class_file.specs.Layout.{magic};
-ghost use Rattle.class_file.specs.FirstForm.{IsFirstForm};
+ghost use Rattle.class_file.specs.OneMain.{IsOneMain};
 ghost use Rattle.class_file.specs.Relation.{is_final, is_interface, is_abstract, are_class_flags};
-ghost use Rattle.class_file.specs.Reading.{Gives, version_at, is_first_class, counts_at, end_at, body_of, class_of};
+ghost use Rattle.class_file.specs.Reading.{Gives, version_at, is_plain_class, counts_at, end_at, body_of, class_of};
 ghost use Rattle.class_file.specs.declared.record.ClassFile.{ClassFile as Record};
 
 use crate::entry::pool_at;
@@ -49,17 +49,17 @@ fn is_abstract(flags: u16) -> bool
 }
 
 /// The flags go together, and are no interface's.
-fn are_first_flags(flags: u16) -> bool
+fn are_plain_flags(flags: u16) -> bool
     ensures { result ≡ (are_class_flags flags && not (is_interface flags)) }
 {
     !is_interface(flags) && !(is_final(flags) && is_abstract(flags))
 }
 
 /// The class is below Object, and no interface.
-fn is_first_class(pool: &Pool, flags: u16, this_class: u16, super_class: u16) -> bool
-    ensures { result ≡ is_first_class pool.now flags this_class super_class }
+fn is_plain_class(pool: &Pool, flags: u16, this_class: u16, super_class: u16) -> bool
+    ensures { result ≡ is_plain_class pool.now flags this_class super_class }
 {
-    are_first_flags(flags)
+    are_plain_flags(flags)
         && pool.has_own_name(this_class)
         && pool.is_class_named(super_class, b"java/lang/Object")
 }
@@ -99,7 +99,7 @@ fn body_of(alloc: Global, bytes: &[u8]) -> Result<ClassFile, ReadRefusal>
     let rest = counts_at(rest)?;
     let (main, rest) = main_at(alloc, &pool, rest)?;
     end_at(rest)?;
-    if !is_first_class(&pool, flags, this_class, super_class) {
+    if !is_plain_class(&pool, flags, this_class, super_class) {
         return Err(ReadRefusal::Unbuilt);
     }
     let mut methods = Vec::new(alloc);
@@ -124,19 +124,19 @@ fn has_magic(bytes: &[u8]) -> bool
     bytes.starts_with(b"\xca\xfe\xba\xbe")
 }
 
-/// Reads the bytes of a class file (JVMS chapter 4) of the first form: one class below Object whose
-/// one method, `main()V`, is straight-line code. All bytes belong to the file.
+/// Reads the bytes of a class file (JVMS chapter 4) of one main: one class below Object whose one
+/// method is `public static main()V`, whatever its code is. All bytes belong to the file.
 pub fn read_class(alloc: Global, bytes: &[u8]) -> Result<ClassFile, ReadRefusal>
-    // What is read is a class file of the form, with this record.
-    ensures found { IfOk result (λ file. IsFirstForm bytes.now file) }
+    // What is read is a class file of one main, with this record.
+    ensures found { IfOk result (λ file. IsOneMain bytes.now file) }
 
-    // A class file of the form is read, unless memory runs out.
-    ensures only { (file : Record) → IsFirstForm bytes.now file → Gives (λ x. x) result (Ok file) }
+    // A class file of one main is read, unless memory runs out.
+    ensures only { (file : Record) → IsOneMain bytes.now file → Gives (λ x. x) result (Ok file) }
 
     // Other bytes are told apart by their first four.
     ensures not_class { IsErrOf result ReadRefusal.NotClass ↔ (take 4 bytes.now ≢ magic) }
     ensures unbuilt { IsErrOf result ReadRefusal.Unbuilt
-        → (take 4 bytes.now ≡ magic) × ((file : Record) → IsFirstForm bytes.now file → ⊥) }
+        → (take 4 bytes.now ≡ magic) × ((file : Record) → IsOneMain bytes.now file → ⊥) }
 
     // Which refusal it is, or which record.
     ensures exact { Gives (λ x. x) result (class_of bytes.now) }

@@ -8,7 +8,7 @@ use std::alloc::{AllocError, AllocFailed};
 pub enum ReadRefusal {
     /// The first four bytes are not `ca fe ba be`, or are not there.
     NotClass,
-    /// The bytes begin so, and are no class file of a form that is built.
+    /// The bytes begin so, and are no class file of one main.
     Unbuilt,
     /// There was no memory for the record.
     Memory,

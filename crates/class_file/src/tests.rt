@@ -20,33 +20,27 @@ const HI: [u8; 154] = [
     0xb8, 0x00, 0x0a, 0xb1, 0x00, 0x00, 0x00, 0x00, 0x00, 0x00,
 ];
 
-/// The file `HI` with other code, and with the whole number 42 as entry 14.
-fn with_code(
-    alloc: Global,
-    max_stack: u16,
-    max_locals: u16,
-    code: &[u8],
-) -> Result<Vec<u8>, AllocError> {
-    let size = code.len().min(20_000) as u32;
+/// The file `HI` with other code, and with the whole number -42 as entry 14.
+fn with_code(alloc: Global, code: &[u8]) -> Result<Vec<u8>, AllocError> {
+    let size = code.len().min(70_000) as u32;
     let mut bytes = Vec::from_slice(alloc, &HI[..9])?;
     bytes.push(15)?;
     bytes.extend_from_slice(&HI[10..103])?;
-    bytes.extend_from_slice(&[3, 0, 0, 0, 42])?;
+    bytes.extend_from_slice(&[3, 0xff, 0xff, 0xff, 0xd6])?;
     bytes.extend_from_slice(&HI[103..125])?;
     bytes.extend_from_slice(&(12 + size).to_be_bytes())?;
-    bytes.extend_from_slice(&max_stack.to_be_bytes())?;
-    bytes.extend_from_slice(&max_locals.to_be_bytes())?;
+    bytes.extend_from_slice(&HI[129..133])?;
     bytes.extend_from_slice(&size.to_be_bytes())?;
     bytes.extend_from_slice(code)?;
     bytes.extend_from_slice(&HI[148..])?;
     Ok(bytes)
 }
 
-/// 2,499 times iconst_0 and a call of write, 9,996 bytes, and then a tail.
+/// Code of 65,280 bytes, and then a tail.
 fn long_code(alloc: Global, tail: &[u8]) -> Result<Vec<u8>, AllocError> {
     let mut code = Vec::new(alloc);
-    for _ in 0..2_499 {
-        code.extend_from_slice(&[0x03, 0xb8, 0x00, 0x0a])?;
+    for _ in 0..255 {
+        code.extend_from_slice(&[0; 256])?;
     }
     code.extend_from_slice(tail)?;
     Ok(code)
@@ -102,7 +96,7 @@ fn reads_by_each_byte(rt: HostRuntime) {
         ("first version", 7, 45, None),
         ("final class", 104, 0x31, None),
         ("abstract class", 103, 0x04, None),
-        ("negative constant", 138, 0xff, None),
+        ("no instruction in the code", 137, 0xff, None),
         ("other magic", 3, 0xbf, Some(ReadRefusal::NotClass)),
         ("version 44", 7, 44, Some(ReadRefusal::Unbuilt)),
         ("version 53", 7, 53, Some(ReadRefusal::Unbuilt)),
@@ -157,51 +151,69 @@ fn reads_by_each_byte(rt: HostRuntime) {
 }
 
 #[test]
-fn reads_each_push(rt: HostRuntime) -> Result<(), Fail> {
-    for opcode in 0x02..=0x08 {
-        let bytes = with_code(rt.alloc(), 1, 0, &[opcode, 0xb1])?;
-        assert!(rt;
-            read_class(rt.alloc(), bytes.as_slice()).is_ok(),
-            "iconst {opcode}"
-        );
+fn reads_whatever_the_code_is(rt: HostRuntime) -> Result<(), Fail> {
+    let codes: [(&str, &[u8]); 4] = [
+        ("one return", &[0xb1]),
+        ("a jump to itself", &[0xa7, 0x00, 0x00]),
+        ("no operand to pop", &[0x57, 0xb1]),
+        ("no instruction", &[0xff]),
+    ];
+    for (name, code) in codes {
+        let bytes = with_code(rt.alloc(), code)?;
+        assert!(rt; read_class(rt.alloc(), bytes.as_slice()).is_ok(), "{name}");
     }
-    let bipush = with_code(rt.alloc(), 1, 0, &[0x10, 0x80, 0xb1])?;
-    assert!(rt; read_class(rt.alloc(), bipush.as_slice()).is_ok());
-    let sipush = with_code(rt.alloc(), 1, 0, &[0x11, 0x80, 0x00, 0xb1])?;
-    assert!(rt; read_class(rt.alloc(), sipush.as_slice()).is_ok());
-    let ldc = with_code(rt.alloc(), 1, 0, &[0x12, 14, 0xb1])?;
-    assert!(rt; read_class(rt.alloc(), ldc.as_slice()).is_ok());
-    let ldc_of_text = with_code(rt.alloc(), 1, 0, &[0x12, 1, 0xb1])?;
-    assert!(rt; read_class(rt.alloc(), ldc_of_text.as_slice()).is_err());
-    let lconst = with_code(rt.alloc(), 1, 0, &[0x09, 0xb1])?;
-    assert!(rt; read_class(rt.alloc(), lconst.as_slice()).is_err());
     Ok(())
 }
 
 #[test]
-fn keeps_the_limits(rt: HostRuntime) -> Result<(), Fail> {
-    let longest = long_code(rt.alloc(), &[0x11, 0x00, 0x01, 0xb1])?;
-    let bytes = with_code(rt.alloc(), 2, 0, longest.as_slice())?;
+fn keeps_the_size_of_code(rt: HostRuntime) -> Result<(), Fail> {
+    let none = with_code(rt.alloc(), &[])?;
+    assert_eq!(rt;
+        read_class(rt.alloc(), none.as_slice()).err(),
+        Some(ReadRefusal::Unbuilt)
+    );
+    let longest = long_code(rt.alloc(), &[0; 255])?;
+    let bytes = with_code(rt.alloc(), longest.as_slice())?;
     assert!(rt; read_class(rt.alloc(), bytes.as_slice()).is_ok());
-    let one_more = long_code(rt.alloc(), &[0x03, 0x11, 0x00, 0x01, 0xb1])?;
-    let bytes = with_code(rt.alloc(), 2, 0, one_more.as_slice())?;
+    let one_more = long_code(rt.alloc(), &[0; 256])?;
+    let bytes = with_code(rt.alloc(), one_more.as_slice())?;
     assert_eq!(rt;
         read_class(rt.alloc(), bytes.as_slice()).err(),
         Some(ReadRefusal::Unbuilt)
     );
-    let frames = [
-        (500, 0, true),
-        (1, 499, true),
-        (501, 0, false),
-        (1, 500, false),
-        (0xffff, 0xffff, false),
-    ];
-    for (max_stack, max_locals, want) in frames {
-        let bytes = with_code(rt.alloc(), max_stack, max_locals, &[0x03, 0xb1])?;
+    Ok(())
+}
+
+#[test]
+fn names_what_the_entries_name(rt: HostRuntime) -> Result<(), Fail> {
+    let bytes = with_code(rt.alloc(), &[0xb1])?;
+    let class = read_class(rt.alloc(), bytes.as_slice())
+        .ok()
+        .ok_or("the bytes are a class file")?;
+    let write = MemberName {
+        class: b"mote/Console",
+        name: b"write",
+        descriptor: b"(I)V",
+    };
+    for index in 0..16 {
+        let is_call = index == 10;
         assert_eq!(rt;
-            read_class(rt.alloc(), bytes.as_slice()).is_ok(),
-            want,
-            "{max_stack} and {max_locals}"
+            method_name(&class.pool, index),
+            is_call.then_some(write),
+            "{index}"
+        );
+        let parts = name_and_type_in(&class.pool, index);
+        let is_pair = index == 9;
+        assert_eq!(rt;
+            parts,
+            is_pair.then_some((write.name, write.descriptor)),
+            "{index}"
+        );
+        let is_number = index == 14;
+        assert_eq!(rt;
+            class.pool.integer(index),
+            is_number.then_some(-42),
+            "{index}"
         );
     }
     Ok(())

@@ -1,8 +1,8 @@
 -- The method main that is read is spelled so and keeps the rules, and what is spelled so and keeps them is read.
-use Rattle.std.proofs.Common.{◌≡◌, ℕ, ◌+◌, ◌^◌, ◌<◌, ◌≤◌, true, ◌&&◌, eqb, leb, List, [], ◌∷◌, ◌++◌, length, Some, None, Ok, refl, sym, ap, subst, ◌∙◌, append_assoc, arith, length-append}
+use Rattle.std.proofs.Common.{◌≡◌, ℕ, ◌+◌, ◌^◌, ◌<◌, true, ◌&&◌, eqb, ltb, List, [], ◌∷◌, ◌++◌, length, Some, None, Ok, refl, sym, ap, subst, ◌∙◌, append_assoc, arith, length-append}
 use Rattle.std.specs.Prelude.{codes}
 use Rattle.std.specs.List.{flat_map, AllByRecursion}
-use Rattle.std.proofs.lemmas.Bool.{and_parts, and_from, eqb-true, eq-eqb, leb-true, le-leb}
+use Rattle.std.proofs.lemmas.Bool.{and_parts, and_from, eqb-true, eq-eqb, ltb-true, lt-ltb}
 use Rattle.std.proofs.lemmas.List.{append-nil}
 use Rattle.std.proofs.lemmas.List.Concat.{flat_map-cons}
 use Rattle.class_file.specs.declared.record.CodeAttr.{CodeAttr}
@@ -10,13 +10,11 @@ use Rattle.class_file.specs.declared.record.HandlerRow.{HandlerRow}
 use Rattle.class_file.specs.declared.record.Member.{Member}
 use Rattle.class_file.specs.Pool.{Places, utf8_at}
 use Rattle.class_file.specs.Layout.{u2, u4, counted, attribute_bytes, code_info, MemberAttribute, Coded, plain, MemberLayout, member_bytes, member_of}
-use Rattle.class_file.specs.Straight.{IsStraight, is_straight, straight_within}
 use Rattle.class_file.specs.Relation.{FitsCode, FitsMemberAttribute, FitsMember, IsNamedAttribute, IsRegularMember}
-use Rattle.class_file.specs.FirstForm.{IsStraightMain}
-use Rattle.class_file.specs.Reading.{u2_at, u4_at, slice_at, expect_at, is_named, code_at, is_first_code, attribute_at, is_main, main_at}
+use Rattle.class_file.specs.OneMain.{IsMain}
+use Rattle.class_file.specs.Reading.{u2_at, u4_at, slice_at, expect_at, is_named, code_at, is_code_size, attribute_at, is_main, main_at}
 use Rattle.class_file.proofs.Steps.{IsBytes, bind_then, passes, ok_is, then_ok, Takes, joined, u2_takes, u2_again, u4_takes, u4_again, expect_takes, expect_again, slice_takes, slice_again}
 use Rattle.class_file.proofs.NameTests.{named_takes, named_again, some_is}
-use Rattle.class_file.proofs.StraightCode.{straight_decides}
 
 -- ---- code
 
@@ -70,29 +68,14 @@ code_again max_stack max_locals code rest stack locals size =
 pub info_size : (max_stack max_locals : ℕ) (code : List ℕ) → length (bare_info max_stack max_locals code) ≡ 12 + length code
 info_size max_stack max_locals code = omega (arith, length-append code (u2 0 ++ u2 0))
 
--- the code keeps to the form
-pub record IsFirstCode (pool : Places) (code : CodeAttr) : Type 0 where
-  pub short : length code.code ≤ 10000
-  pub frame : code.max_stack + code.max_locals ≤ 500
-  pub straight : IsStraight pool code.max_stack 0 code.code
+-- the test of the size of code
+size_takes : (size : ℕ) → is_code_size size ≡ true → (0 < size) × (size < 65536)
+size_takes size e =
+    let p = and_parts (ltb 0 size) (ltb size 65536) e in
+    (ltb-true 0 size p.0, ltb-true size 65536 p.1)
 
-pub first_code_takes : (pool : Places) (code : CodeAttr) → is_first_code pool code ≡ true → IsFirstCode pool code
-first_code_takes pool code e =
-    let p = and_parts (leb (length code.code) 10000 && leb (code.max_stack + code.max_locals) 500) (is_straight pool code.max_stack 0 code.code) e in
-    let q = and_parts (leb (length code.code) 10000) (leb (code.max_stack + code.max_locals) 500) p.0 in
-    record { short = leb-true _ _ q.0; frame = leb-true _ _ q.1; straight = (straight_decides pool code.max_stack code.code).0 p.1 }
-
-pub first_code_again : (pool : Places) (code : CodeAttr) → IsFirstCode pool code → is_first_code pool code ≡ true
-first_code_again pool code is =
-    and_from (leb (length code.code) 10000 && leb (code.max_stack + code.max_locals) 500) (is_straight pool code.max_stack 0 code.code)
-    (and_from (leb (length code.code) 10000) (leb (code.max_stack + code.max_locals) 500) (le-leb _ _ is.short) (le-leb _ _ is.frame))
-    ((straight_decides pool code.max_stack code.code).1 is.straight)
-
--- straight-line code has an instruction
-some_code : (pool : Places) (max_stack : ℕ) (code : List ℕ) → is_straight pool max_stack 0 code ≡ true → 0 < length code
-unfolding straight_within
-some_code pool max_stack [] e = absurd cc
-some_code pool max_stack (opcode ∷ operands) e = omega arith
+size_again : (size : ℕ) → 0 < size → size < 65536 → is_code_size size ≡ true
+size_again size some few = and_from (ltb 0 size) (ltb size 65536) (lt-ltb 0 size some) (lt-ltb size 65536 few)
 
 -- ---- the attribute
 
@@ -106,7 +89,6 @@ pub record TakesAttribute (pool : Places) (bytes : List ℕ) (x : CodeAttr × Li
   pub fits : FitsMemberAttribute (Coded name x.0 [])
   pub named : IsNamedAttribute pool (Coded name x.0 [])
   pub handlers : x.0.handlers ≡ []
-  pub first : IsFirstCode pool x.0
 
 -- the info of code without handlers is the bare one
 bare_is : (code : CodeAttr) → code.handlers ≡ [] → code_info code [] ≡ bare_info code.max_stack code.max_locals code.code
@@ -114,24 +96,22 @@ bare_is code e = rw e refl
 
 -- an attribute whose parts were read and tested
 attribute_made : (pool : Places) (bytes : List ℕ) (name : ℕ × List ℕ) (size : ℕ × List ℕ) (code : CodeAttr × List ℕ) → Takes bytes (u2 name.0) name.1 → name.0 < 2 ^ 16 → Takes name.1 (u4 size.0) size.1 → size.0 < 2 ^ 32 → TakesCode size.1 code
-    → ((is_named (codes "Code") (utf8_at pool name.0) && eqb size.0 (12 + length code.0.code)) && is_first_code pool code.0) ≡ true → TakesAttribute pool bytes code
+    → ((is_named (codes "Code") (utf8_at pool name.0) && eqb size.0 (12 + length code.0.code)) && is_code_size (length code.0.code)) ≡ true → TakesAttribute pool bytes code
 attribute_made pool bytes name size code at_name name_fits at_size size_fits inside e =
-    let p = and_parts (is_named (codes "Code") (utf8_at pool name.0) && eqb size.0 (12 + length code.0.code)) (is_first_code pool code.0) e in
+    let p = and_parts (is_named (codes "Code") (utf8_at pool name.0) && eqb size.0 (12 + length code.0.code)) (is_code_size (length code.0.code)) e in
     let q = and_parts (is_named (codes "Code") (utf8_at pool name.0)) (eqb size.0 (12 + length code.0.code)) p.0 in
-    let r = and_parts (leb (length code.0.code) 10000 && leb (code.0.max_stack + code.0.max_locals) 500) (is_straight pool code.0.max_stack 0 code.0.code) p.1 in
     let info = bare_is code.0 inside.handlers in
     let sized : size.0 ≡ length (code_info code.0 []) = eqb-true _ _ q.1 ∙ sym (ap length info ∙ info_size code.0.max_stack code.0.max_locals code.0.code) in
     let t2 : Takes name.1 (u4 (length (code_info code.0 []))) size.1 = subst (λ (n : ℕ). Takes name.1 (u4 n) size.1) sized at_size in
     let t3 : Takes size.1 (code_info code.0 []) code.1 = subst (λ (t : List ℕ). Takes size.1 t code.1) (sym info) inside.takes in
-    let first = first_code_takes pool code.0 p.1 in
+    let within = size_takes (length code.0.code) p.1 in
     let short : length (code_info code.0 []) < 2 ^ 32 = omega (arith, sized, size_fits) in
     record {
       name = name.0;
       takes = joined at_name (joined t2 t3);
       fits = record { attribute = record { name = name_fits; info = short }; inside = inside.fits };
-      named = (named_takes (codes "Code") (utf8_at pool name.0) q.0, some_code pool code.0.max_stack code.0.code r.1, omega (arith, first.short));
+      named = (named_takes (codes "Code") (utf8_at pool name.0) q.0, within.0, within.1);
       handlers = inside.handlers;
-      first = first;
     }
 
 pub attribute_takes : (pool : Places) (bytes : List ℕ) (x : CodeAttr × List ℕ) → IsBytes bytes → attribute_at pool bytes ≡ Ok x → TakesAttribute pool bytes x
@@ -140,22 +120,22 @@ attribute_takes pool bytes x fits e =
     bind_then (u2_at bytes) _ x e (λ name at_name e_size.
     bind_then (u4_at name.1) _ x e_size (λ size at_size e_code.
     bind_then (code_at size.1) _ x e_code (λ code at_code e_x.
-    let g = passes ((is_named (codes "Code") (utf8_at pool name.0) && eqb size.0 (12 + length code.0.code)) && is_first_code pool code.0) code x e_x in
+    let g = passes ((is_named (codes "Code") (utf8_at pool name.0) && eqb size.0 (12 + length code.0.code)) && is_code_size (length code.0.code)) code x e_x in
     let t1 = u2_takes bytes name fits at_name in
     let t2 = u4_takes name.1 size t1.0.rest_fits at_size in
     let t3 = code_takes size.1 code t2.0.rest_fits at_code in
     subst (TakesAttribute pool bytes) g.1 (attribute_made pool bytes name size code t1.0 t1.1 t2.0 t2.1 t3 g.0))))
 
-pub attribute_again : (pool : Places) (name max_stack max_locals : ℕ) (code rest : List ℕ) → FitsMemberAttribute (coded name max_stack max_locals code) → IsNamedAttribute pool (coded name max_stack max_locals code) → IsFirstCode pool (bare max_stack max_locals code)
+pub attribute_again : (pool : Places) (name max_stack max_locals : ℕ) (code rest : List ℕ) → FitsMemberAttribute (coded name max_stack max_locals code) → IsNamedAttribute pool (coded name max_stack max_locals code)
     → attribute_at pool (attribute_bytes (plain (coded name max_stack max_locals code)) ++ rest) ≡ Ok (bare max_stack max_locals code, rest)
 unfolding attribute_at
-attribute_again pool name max_stack max_locals code rest fits named first =
+attribute_again pool name max_stack max_locals code rest fits named =
     let info : List ℕ = bare_info max_stack max_locals code in
     let size : length info ≡ 12 + length code = info_size max_stack max_locals code in
-    let test : ((is_named (codes "Code") (utf8_at pool name) && eqb (length info) (12 + length code)) && is_first_code pool (bare max_stack max_locals code)) ≡ true =
-    and_from (is_named (codes "Code") (utf8_at pool name) && eqb (length info) (12 + length code)) (is_first_code pool (bare max_stack max_locals code))
+    let test : ((is_named (codes "Code") (utf8_at pool name) && eqb (length info) (12 + length code)) && is_code_size (length code)) ≡ true =
+    and_from (is_named (codes "Code") (utf8_at pool name) && eqb (length info) (12 + length code)) (is_code_size (length code))
     (and_from (is_named (codes "Code") (utf8_at pool name)) (eqb (length info) (12 + length code)) (named_again (codes "Code") (utf8_at pool name) named.0) (eq-eqb _ _ size))
-    (first_code_again pool (bare max_stack max_locals code) first) in
+    (size_again (length code) named.1 named.2) in
     then_ok _ _ (u2_again name (u4 (length info) ++ (info ++ rest)) fits.attribute.name)
     (then_ok _ _ (u4_again (length info) (info ++ rest) fits.attribute.info)
     (then_ok _ _ (code_again max_stack max_locals code rest fits.inside.max_stack fits.inside.max_locals fits.inside.code) (rw test refl)))
@@ -182,7 +162,7 @@ pub record TakesMain (pool : Places) (bytes : List ℕ) (x : Member × List ℕ)
   pub takes : Takes bytes (member_bytes layout) x.1
   pub fits : FitsMember layout
   pub regular : IsRegularMember pool layout
-  pub main : IsStraightMain pool layout
+  pub main : IsMain pool layout
 
 -- a method whose parts were read and tested
 main_made : (pool : Places) (bytes : List ℕ) (flags name descriptor : ℕ) (after : List ℕ) (code : CodeAttr × List ℕ) → Takes bytes (u2 flags ++ (u2 name ++ (u2 descriptor ++ u2 1))) after → flags < 2 ^ 16 → name < 2 ^ 16 → descriptor < 2 ^ 16
@@ -210,9 +190,6 @@ main_made pool bytes flags name descriptor after code front flags_fit name_fits 
             descriptor = typed;
             attributes = refl;
             handlers = inside.handlers;
-            short = inside.first.short;
-            frame = inside.first.frame;
-            straight = inside.first.straight;
           };
     }
 
@@ -233,12 +210,12 @@ main_takes pool bytes x fits e =
     let front : Takes bytes (u2 flags.0 ++ (u2 name.0 ++ (u2 descriptor.0 ++ u2 1))) after = joined t1.0 (joined t2.0 (joined t3.0 t4)) in
     subst (TakesMain pool bytes) g.1 (main_made pool bytes flags.0 name.0 descriptor.0 after code front t1.1 t2.1 t3.1 t5 g.0))))))
 
--- the layout of main and of its code, where the lists of the form are empty
-main_is : (pool : Places) (m : MemberLayout) (main : IsStraightMain pool m) → m.attributes ≡ coded main.code_name main.code.max_stack main.code.max_locals main.code.code ∷ []
+-- the layout of main and of its code, by its parts
+main_is : (pool : Places) (m : MemberLayout) (main : IsMain pool m) → m.attributes ≡ coded main.code_name main.code.max_stack main.code.max_locals main.code.code ∷ []
 main_is pool m main =
     main.attributes ∙ ap (λ (handlers : List HandlerRow). Coded main.code_name (record { max_stack = main.code.max_stack; max_locals = main.code.max_locals; code = main.code.code; handlers = handlers }) [] ∷ []) main.handlers
 
-pub main_again : (pool : Places) (m : MemberLayout) (rest : List ℕ) → FitsMember m → IsRegularMember pool m → IsStraightMain pool m → main_at pool (member_bytes m ++ rest) ≡ Ok (member_of m, rest)
+pub main_again : (pool : Places) (m : MemberLayout) (rest : List ℕ) → FitsMember m → IsRegularMember pool m → IsMain pool m → main_at pool (member_bytes m ++ rest) ≡ Ok (member_of m, rest)
 unfolding main_at
 main_again pool m rest fits regular main =
     let code : CodeAttr = bare main.code.max_stack main.code.max_locals main.code.code in
@@ -246,7 +223,6 @@ main_again pool m rest fits regular main =
     let attributes = main_is pool m main in
     let fit : AllByRecursion FitsMemberAttribute (attribute ∷ []) = subst (AllByRecursion FitsMemberAttribute) attributes fits.attributes in
     let named : AllByRecursion (IsNamedAttribute pool) (attribute ∷ []) = subst (AllByRecursion (IsNamedAttribute pool)) attributes regular.attributes in
-    let first : IsFirstCode pool code = record { short = main.short; frame = main.frame; straight = main.straight } in
     let tail : List ℕ = attribute_bytes (plain attribute) ++ rest in
     let regrouped : member_bytes m ++ rest ≡ u2 m.flags ++ (u2 m.name ++ (u2 m.descriptor ++ (u2 1 ++ tail))) = ap (λ (x : List ℕ). x ++ rest) (one_is m attribute attributes) in
     let test : is_main pool m.flags m.name m.descriptor ≡ true =
@@ -259,5 +235,5 @@ main_again pool m rest fits regular main =
     (then_ok _ _ (u2_again m.name (u2 m.descriptor ++ (u2 1 ++ tail)) fits.name)
     (then_ok _ _ (u2_again m.descriptor (u2 1 ++ tail) fits.descriptor)
     (then_ok _ _ (expect_again 1 tail (omega arith))
-    (then_ok _ _ (attribute_again pool main.code_name main.code.max_stack main.code.max_locals main.code.code rest fit.0 named.0 first)
+    (then_ok _ _ (attribute_again pool main.code_name main.code.max_stack main.code.max_locals main.code.code rest fit.0 named.0)
     (rw test (ap (λ (member : Member). Ok (member, rest)) (sym record_is)))))))
