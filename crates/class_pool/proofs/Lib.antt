@@ -1,0 +1,14 @@
+pub mod Texts
+pub mod Steps
+pub mod Loop
+pub mod Linked
+pub mod Parts
+pub mod Bodies
+pub mod Entries
+pub mod PlaceLists
+pub mod Pools
+pub mod Scans
+pub mod ClassNames
+pub mod FieldTypes
+pub mod Parameters
+pub mod Calls

@@ -1,0 +1,17 @@
+use Rattle.std.proofs.Common.{sym, ap, ◌∙◌}
+use Rattle.class_pool.specs.PoolReading.{pool_at}
+use Rattle.class_pool.proofs.Pools.{pool_again, same_parts}
+use Rattle.class_pool.proofs.ClassNames.{some_is}
+use Rattle.class_pool.proofs.FieldTypes.{field_read}
+use Rattle.class_pool.proofs.Parameters.{method_read}
+use Rattle.class_pool.proofs.laws.one_value.Goals as goal
+
+pub returns-clause-pool : goal.returns-clause-pool
+returns-clause-pool c = λ first second behind_first behind_second is_first is_second e.
+    same_parts (first, behind_first) (second, behind_second) (sym (pool_again first behind_first is_first) ∙ ap pool_at e ∙ pool_again second behind_second is_second)
+
+pub returns-clause-field : goal.returns-clause-field
+returns-clause-field c = λ text first second is_first is_second. some_is first second (sym (field_read text first is_first) ∙ field_read text second is_second)
+
+pub returns-clause-method : goal.returns-clause-method
+returns-clause-method c = λ text first second is_first is_second. some_is first second (sym (method_read text first is_first) ∙ method_read text second is_second)
