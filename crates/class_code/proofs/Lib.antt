@@ -5,3 +5,4 @@ pub mod Firsts
 pub mod Starts
 pub mod Laws
 pub mod Handlers
+pub mod Numbers
