@@ -24,14 +24,10 @@ pub struct Image {
 pub enum TypeEntry {
     Class(ClassEntry),
     /// An array of elements of this type id.
-    RefArray {
-        of: u16,
-    },
+    RefArray { of: u16 },
     /// An array of booleans (4), chars (5), bytes (8), shorts (9) or ints (10), the kinds of JVMS table
     /// 6.5.newarray-A.
-    NumArray {
-        kind: u8,
-    },
+    NumArray { kind: u8 },
 }
 
 /// A class or an interface.

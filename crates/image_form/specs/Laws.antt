@@ -1,0 +1,17 @@
+-- Laws of the format.
+use Rattle.std.specs.Prelude.{◌≡◌, List, ℕ, [], ◌++◌}
+use Rattle.image_form.specs.declared.record.Image.{Image}
+use Rattle.image_form.specs.Format.{spelling}
+use Rattle.image_form.specs.SmallForm.{IsSmall, IsSpelled}
+
+-- a small image has one spelling
+abbrev pub HasOneSpelling : Type 0
+HasOneSpelling = (image : Image) (first second : List ℕ) → IsSpelled first image → IsSpelled second image → first ≡ second
+
+-- equal spellings are those of equal images
+abbrev pub SpellsOneImage : Type 0
+SpellsOneImage = (bytes : List ℕ) (first second : Image) → IsSpelled bytes first → IsSpelled bytes second → first ≡ second
+
+-- no spelling is a proper front of another
+abbrev pub NoneIsFrontOfAnother : Type 0
+NoneIsFrontOfAnother = (first second : Image) (behind : List ℕ) → IsSmall first → IsSmall second → spelling first ++ behind ≡ spelling second → behind ≡ []

@@ -1,0 +1,86 @@
+-- The small form of images: one class without fields, interfaces and rows, and one method, main,
+-- without arguments, result and handlers.
+use Rattle.std.specs.Prelude.{◌≡◌, ◌≢◌, ℕ, ◌+◌, ◌≤◌, List, [], ◌∷◌, ◌++◌, length}
+use Rattle.image_form.specs.declared.record.Image.{Image}
+use Rattle.image_form.specs.declared.record.TypeEntry.TheVariants.{Class}
+use Rattle.image_form.specs.declared.record.ClassEntry.{ClassEntry}
+use Rattle.image_form.specs.declared.record.Method.{Method}
+use Rattle.image_form.specs.Format.{spelling}
+
+-- a class without fields, interfaces and rows
+abbrev pub small_class : ℕ → List ℕ → ClassEntry
+small_class parent name =
+    record { parent = parent; flags = 0; refs = 0; nums = 0; interfaces = []; rows = []; name = name }
+
+-- a method without arguments, result and handlers
+abbrev pub small_method : ℕ → ℕ → ℕ → List ℕ → Method
+small_method ref_locals cell_locals body code =
+    record {
+      sig = record { refs = 0; cells = 0; result = 0 };
+      ref_locals = ref_locals;
+      cell_locals = cell_locals;
+      body = body;
+      code = code;
+      handlers = [];
+    }
+
+-- the image of a class and of its one method
+abbrev pub small_image : ClassEntry → Method → Image
+small_image class method =
+    record {
+      version = 1;
+      types = Class class ∷ [];
+      selectors = [];
+      methods = method ∷ [];
+      static_refs = 0;
+      static_cells = [];
+      main = 32;
+    }
+
+-- the class stands below a type of the library, and its name has a length in two bytes
+pub record IsSmallClass (class : ClassEntry) : Type 0 where
+  pub parent : ℕ
+  pub name : List ℕ
+  pub class_is : class ≡ small_class parent name
+  pub parent_is : parent ≤ 14
+  pub name_fits : length name ≤ 65535
+
+-- the locals are within the body, the body is within a frame, and the code has a length in two bytes
+pub record IsSmallMethod (method : Method) : Type 0 where
+  pub ref_locals : ℕ
+  pub cell_locals : ℕ
+  pub body : ℕ
+  pub code : List ℕ
+  pub method_is : method ≡ small_method ref_locals cell_locals body code
+  pub locals_fit : ref_locals + cell_locals ≤ body
+  pub body_fits : body ≤ 32763
+  pub code_some : 1 ≤ length code
+  pub code_fits : length code ≤ 65535
+
+-- the image has the small form
+pub record IsSmall (image : Image) : Type 0 where
+  pub class : ClassEntry
+  pub method : Method
+  pub image_is : image ≡ small_image class method
+  pub class_small : IsSmallClass class
+  pub method_small : IsSmallMethod method
+
+-- the image is small, and the bytes are its spelling
+abbrev pub IsSpelled : List ℕ → Image → Type 0
+IsSpelled bytes image = IsSmall image × (bytes ≡ spelling image)
+
+-- the bytes are a proper front of the spelling of a small image
+pub record IsFront (bytes : List ℕ) : Type 0 where
+  pub image : Image
+  pub behind : List ℕ
+  pub small : IsSmall image
+  pub spelled : bytes ++ behind ≡ spelling image
+  pub proper : behind ≢ []
+
+-- the spelling of a small image is a proper front of the bytes
+pub record IsFollowed (bytes : List ℕ) : Type 0 where
+  pub image : Image
+  pub behind : List ℕ
+  pub small : IsSmall image
+  pub spelled : bytes ≡ spelling image ++ behind
+  pub proper : behind ≢ []

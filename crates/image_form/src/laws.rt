@@ -1,0 +1,9 @@
+ghost use Rattle.image_form.specs.Laws.{HasOneSpelling, SpellsOneImage, NoneIsFrontOfAnother};
+
+/// A small image has one spelling and a spelling is that of one image, and none is a proper front of
+/// another.
+pub fn one_spelling()
+    ensures spelling { HasOneSpelling }
+    ensures image { SpellsOneImage }
+    ensures front { NoneIsFrontOfAnother }
+{}
