@@ -1,0 +1,10 @@
+pub mod Starts
+pub mod Standing
+pub mod Targets
+pub mod Passing
+pub mod Depths
+pub mod Reaching
+pub mod Spreading
+pub mod Flowing
+pub mod Ending
+pub mod Apart

@@ -1,0 +1,11 @@
+pub mod Code
+pub mod Ids
+pub mod Built
+pub mod Visits
+pub mod Checked
+pub mod Refused
+pub mod Listing
+pub mod Targets
+pub mod Table
+pub mod Flow
+pub mod Names

@@ -1,0 +1,25 @@
+//! The check of an image before it runs: `check` answers a `Checked` image exactly where each method
+//! keeps the rules (specs/Checked.antt) and the machine runs each of its instructions. Which rule a
+//! refusal names, and where it fails, is in specs/Refused.antt; what is kept while depths are followed,
+//! in specs/Flow.antt. This crate stands on `image_form`, `image_instr`, `item_list` and the kit's
+//! `byteorder`.
+#![tactic(auto)]
+
+mod built;
+mod depth;
+mod flow;
+mod ids;
+mod jumps;
+mod laws;
+mod listing;
+mod names;
+mod refusal;
+mod send;
+#[cfg(test)]
+mod tests;
+mod verdict;
+mod visit;
+
+pub use laws::refused_images_are_not_checked;
+pub use refusal::{CheckCause, CheckRefusal};
+pub use verdict::{Checked, check};

@@ -1,0 +1,138 @@
+//! The check of an image, and what a checked image lends.
+
+ghost use Rattle.std.specs.Prelude.{◌≡◌, ◌≢◌, ◌≤◌, ◌⊎◌, IfOk, IfErr, OnOk, IsSome, Some, length, slice_get, ◌-◌};
+ghost use Rattle.image_form.specs.declared.record.Method.{Method};
+ghost use Rattle.image_form.specs.SmallForm.{IsSmall};
+ghost use Rattle.image_check.specs.declared.refusal.CheckCause.TheVariants.{Memory};
+ghost use Rattle.image_check.specs.Checked.{IsCheckedMethod, IsChecked, IsBuiltMethod, IsBuilt};
+ghost use Rattle.image_check.specs.Refused.{IsFault, IsRefused};
+
+use crate::built::test_built;
+use crate::flow::follow_depths;
+use crate::ids::{FIRST_OWN, test_ids};
+use crate::jumps::test_targets;
+use crate::listing::list_insns;
+use crate::names::type_name;
+use crate::refusal::{CheckCause, CheckRefusal, Fault};
+use image_form::{Image, Method};
+use std::alloc::Global;
+use std::marker::Model;
+
+/// An image that keeps the rules, each of whose instructions the machine runs. Contracts see the image.
+#[derive(Drop)]
+pub struct Checked {
+    image: Image,
+}
+
+impl Model for Checked {
+    ghost use Rattle.image_form.specs.declared.record.Image.{Image};
+    ghost use Rattle.image_form.specs.SmallForm.{IsSmall};
+    ghost use Rattle.image_check.specs.Checked.{IsChecked, IsBuilt};
+
+    ghost Value = { Image };
+
+    ghost view = { λ checked. checked.image };
+
+    ghost invariant = { λ checked. IsSmall checked.image × IsChecked checked.image × IsBuilt checked.image };
+}
+
+/// Tests a method: its code, its targets, its ids, that the machine runs it, and its depths.
+fn check_method(alloc: Global, image: &Image, method: &Method) -> Result<(), Fault>
+    requires some { 1 ≤ length method.now.code }
+    requires small { length method.now.code ≤ 65535 }
+    ensures checked { OnOk result (IsCheckedMethod image.now method.now) }
+    ensures built { OnOk result (IsBuiltMethod method.now) }
+    ensures refused { IfErr result (λ fault. IsFault image.now method.now fault.cause fault.pc) }
+{
+    let insns = list_insns(alloc, method)?;
+    test_targets(method, &insns)?;
+    test_ids(image, method, &insns)?;
+    test_built(method, &insns)?;
+    follow_depths(alloc, image, method)
+}
+
+/// The refusal of an image for the fault of a method; want of memory has no place.
+fn refusal_of(fault: Fault, method: u16) -> CheckRefusal
+    ensures cause { result.cause ≡ fault.cause }
+    ensures place { fault.cause ≢ Memory → (result.method ≡ method) × (result.pc ≡ fault.pc) }
+    ensures memory { fault.cause ≡ Memory → (result.method ≡ 0) × (result.pc ≡ 0) }
+{
+    match fault.cause {
+        CheckCause::Memory => CheckRefusal {
+            cause: CheckCause::Memory,
+            method: 0,
+            pc: 0,
+        },
+        cause => CheckRefusal {
+            cause,
+            method,
+            pc: fault.pc,
+        },
+    }
+}
+
+/// Tests each method, by its id.
+fn check_methods(alloc: Global, image: &Image) -> Result<(), CheckRefusal>
+    requires { IsSmall image.now }
+    ensures checked { OnOk result (IsChecked image.now) }
+    ensures built { OnOk result (IsBuilt image.now) }
+    ensures refused { IfErr result (λ refusal. (refusal.cause ≡ Memory) ⊎ IsRefused image.now refusal) }
+    ensures memory { IfErr result (λ refusal. refusal.cause ≡ Memory → (refusal.method ≡ 0) × (refusal.pc ≡ 0)) }
+{
+    for (index, method) in image.methods.as_slice().iter().enumerate() {
+        if let Err(fault) = check_method(alloc, image, method) {
+            return Err(refusal_of(fault, FIRST_OWN + index as u16));
+        }
+    }
+    Ok(())
+}
+
+/// Checks an image. It is answered where each method keeps the rules and the machine runs each of its
+/// instructions; else it is given back, with a rule that fails and where.
+pub fn check(alloc: Global, image: Image) -> Result<Checked, (Image, CheckRefusal)>
+    requires { IsSmall image }
+    ensures found { IfOk result (λ checked. (checked ≡ image) × IsChecked image × IsBuilt image) }
+    ensures only { IsChecked image → IsBuilt image → IfErr result (λ refused. refused.1.cause ≡ Memory) }
+    ensures refused { IfErr result (λ refused. (refused.0 ≡ image) × ((refused.1.cause ≡ Memory) ⊎ IsRefused image refused.1)) }
+    ensures memory { IfErr result (λ refused. refused.1.cause ≡ Memory → (refused.1.method ≡ 0) × (refused.1.pc ≡ 0)) }
+{
+    match check_methods(alloc, &image) {
+        Ok(()) => Ok(Checked { image }),
+        Err(refusal) => Err((image, refusal)),
+    }
+}
+
+impl Checked {
+    ghost use Rattle.std.specs.Prelude.{◌<◌};
+    ghost use Rattle.image_form.specs.Library.{name_of};
+    ghost use Rattle.image_check.specs.Names.{HasType};
+
+    /// The whole image.
+    pub fn image(&self) -> &Image
+        ensures all { result.now ≡ self.now }
+        ensures small { IsSmall self.now }
+        ensures checked { IsChecked self.now }
+        ensures built { IsBuilt self.now }
+    {
+        &self.image
+    }
+
+    /// The code of a method that has code: the infusion's own bytes.
+    pub fn code(&self, method: u16) -> &[u8]
+        requires own { 32 ≤ method }
+        requires there { IsSome (slice_get self.now.methods (method - 32)) }
+        ensures { (entry : Method) → slice_get self.now.methods (method - 32) ≡ Some entry → result.now ≡ entry.code }
+    {
+        self.image.methods.as_slice()[usize::from(method - FIRST_OWN)]
+            .code
+            .as_slice()
+    }
+
+    /// The bytes of the name of a type of the library or of the image; those of an array type are none.
+    pub fn name_of(&self, class: u16) -> &[u8]
+        requires { HasType self.now class }
+        ensures { result.now ≡ name_of self.now class }
+    {
+        type_name(&self.image, class)
+    }
+}
