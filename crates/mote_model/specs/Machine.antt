@@ -10,6 +10,7 @@ use Rattle.cell_num.specs.Conversions.{converted}
 use Rattle.cell_num.specs.Arithmetic.{applied}
 use Rattle.cell_num.specs.Conditions.{is_met}
 use Rattle.dialogue.specs.Dialogue.{Get, putting}
+use Rattle.dialogue.specs.Limits.{Limits}
 use Rattle.dialogue.specs.Natives.{low_byte, next_byte, behind_byte}
 use Rattle.dialogue.specs.Outcome.{Outcome}
 use Rattle.dialogue.specs.Run as run
@@ -25,25 +26,10 @@ use Rattle.image_instr.specs.Reading.{insn_at, rows_at}
 use Rattle.image_instr.specs.Switch.{target_in}
 use Rattle.image_form.specs.declared.record.Image.{Image}
 use Rattle.image_form.specs.declared.record.Method.{Method}
+use Rattle.mote_model.specs.declared.ending.Ending.{Ending}
+use Rattle.mote_model.specs.declared.ending.Ending.TheVariants.{Done, Uncaught, Spent, StackWanted}
 use Rattle.mote_model.specs.State.{Frame, State}
 use Rattle.mote_model.specs.Numbers.{with_number, op_of, cond_of}
-
--- the oldest frame, which is main's, returned; a throw of an object of this class had no handler; the next
--- tick would exceed the budget; an object did not fit the heap; a frame did not fit the stack; or an
--- object lacked a place
-pub data Ending : Type 0 where
-  Done : Ending
-  Uncaught : (class : ℕ) → Ending
-  Spent : Ending
-  HeapWanted : (need live : ℕ) → Ending
-  StackWanted : (need used : ℕ) → Ending
-  Misfit : (class place : ℕ) → Ending
-
--- the cells of the heap and of the stack, and the budget of ticks
-pub record Limits : Type 0 where
-  pub heap : ℕ
-  pub stack : ℕ
-  pub ticks : ℕ
 
 -- the id of the library's ArithmeticException
 abbrev pub arithmetic_exception : ℕ
