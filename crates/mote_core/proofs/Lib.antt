@@ -1,0 +1,16 @@
+pub mod Small
+pub mod Sizes
+pub mod Starts
+pub mod Sent
+pub mod CellFacts
+pub mod Nearer
+pub mod Families
+pub mod Steps
+pub mod Progress
+pub mod Tops
+pub mod TurnSteps
+pub mod Executes
+pub mod Puts
+pub mod Acting
+pub mod CanRun
+pub mod Going

@@ -1,0 +1,126 @@
+use Rattle.std.proofs.Common.{◌≡◌, ◌+◌, ◌≤◌, ◌<◌, Some, sym, ap, subst, ◌∙◌, arith, rules}
+use Rattle.std.specs.Prelude.{vec_capacity}
+use Rattle.image_form.specs.SmallForm.{IsSmall}
+use Rattle.image_check.specs.Checked.{IsChecked, IsBuilt}
+use Rattle.mote_model.specs.Machine.{method_of, frame_cells}
+use Rattle.mote_core.proofs.Going.{going-start, ran-tall, runs-at, none-at, on-at, ends-at}
+use Rattle.mote_core.proofs.mote.Mote.run.Goals as goal
+
+pub returns-then-from-need-clause-ran : goal.returns-then-from-need-clause-ran
+returns-then-from-need-clause-ran g c =
+    let C = g.C.Console in
+    let ready = c.args.self.now in
+    let main = c.main_method-main.result.now in
+    let image_is : c.self.inside.checked ≡ ready.image = ap (λ r. r.image) c.self.view_is in
+    let stack_is : c.self.inside.stack ≡ ready.stack = ap (λ r. r.stack) c.self.view_is in
+    let is_main = subst (λ image. method_of image image.main ≡ Some main) (c.image.ensures.all ∙ image_is) c.main_method-main.ensures in
+    let tall : ready.stack < frame_cells main = omega (arith, c.if-from-need.true, c.from.ensures, c.from-need.ensures, stack_is) in
+    rw c.from-need.ensures
+    (ran-tall C.left C.shown C.noted C.faults C.room ready (subst IsSmall image_is c.image.ensures.small) (subst IsChecked image_is c.image.ensures.checked) (subst IsBuilt image_is c.image.ensures.built)
+    c.args.ticks c.args.console.now main is_main tall)
+
+pub loop-insn-init : goal.loop-insn-init
+loop-insn-init g c =
+    let C = g.C.Console in
+    let ready = c.args.self.now in
+    let main = c.main_method-main.result.now in
+    let image_is : c.self.inside.checked ≡ ready.image = ap (λ r. r.image) c.self.view_is in
+    let stack_is : c.self.inside.stack ≡ ready.stack = ap (λ r. r.stack) c.self.view_is in
+    let is_main = subst (λ image. method_of image image.main ≡ Some main) (c.image.ensures.all ∙ image_is) c.main_method-main.ensures in
+    let fits : frame_cells main ≤ ready.stack = omega (arith, c.if-from-need.false, c.from.ensures, c.from-need.ensures, stack_is) in
+    record {
+      going = going-start C.left C.shown C.noted C.faults C.room ready (subst IsSmall image_is c.image.ensures.small) (subst IsChecked image_is c.image.ensures.checked) (subst IsBuilt image_is c.image.ensures.built)
+          c.args.ticks c.args.console.now _ main is_main fits c.start.ensures.pc c.start.ensures.cells c.start.ensures.left;
+      room = omega (arith, c.self.invariant, c.start.ensures.room, stack_is);
+    }
+
+pub execute-turn-requires-clause-runs : goal.execute-turn-requires-clause-runs
+execute-turn-requires-clause-runs g c =
+    let C = g.C.Console in
+    let ready = c.args.self.now in
+    let main = c.main_method-main.result.now in
+    let image_is : c.self.inside.checked ≡ ready.image = ap (λ r. r.image) c.self.view_is in
+    let stack_is : c.self.inside.stack ≡ ready.stack = ap (λ r. r.stack) c.self.view_is in
+    let is_main = subst (λ image. method_of image image.main ≡ Some main) (c.image.ensures.all ∙ image_is) c.main_method-main.ensures in
+    let active = c.loop-insn.self-inside.1.1.1.1.0 in
+    let fits : main.body ≤ vec_capacity active.cells = omega (arith, c.if-from-need.false, c.from.ensures, c.from-need.ensures, stack_is, c.loop-insn.invariant.room) in
+    runs-at C.left C.shown C.noted C.faults C.room ready (subst IsSmall image_is c.image.ensures.small) (subst IsChecked image_is c.image.ensures.checked) (subst IsBuilt image_is c.image.ensures.built)
+    c.args.ticks c.args.console.now main is_main c.as_slice-code.result.now c.as_slice-code.ensures c.loop-insn.console _ c.loop-insn.invariant.going
+    c.in-Some.insn c.in-Some.size (vec_capacity active.cells) (sym c.decode_at.ensures.exact ∙ c.in-Some.is) fits
+
+pub unreachable-requires : goal.unreachable-requires
+unreachable-requires g c =
+    let C = g.C.Console in
+    let ready = c.args.self.now in
+    let main = c.main_method-main.result.now in
+    let image_is : c.self.inside.checked ≡ ready.image = ap (λ r. r.image) c.self.view_is in
+    let is_main = subst (λ image. method_of image image.main ≡ Some main) (c.image.ensures.all ∙ image_is) c.main_method-main.ensures in
+    none-at C.left C.shown C.noted C.faults C.room ready (subst IsSmall image_is c.image.ensures.small) (subst IsChecked image_is c.image.ensures.checked) (subst IsBuilt image_is c.image.ensures.built)
+    c.args.ticks c.args.console.now main is_main c.as_slice-code.result.now c.as_slice-code.ensures c.loop-insn.console _ c.loop-insn.invariant.going
+    (sym c.decode_at.ensures.exact ∙ c.in_default.is)
+
+pub invariant_of-self : goal.invariant_of-self
+invariant_of-self g c =
+    let stack_is : c.self.inside.stack ≡ c.args.self.now.stack = ap (λ r. r.stack) c.self.view_is in
+    omega (arith, c.loop-insn.invariant.room, c.execute-turn.ensures.room, c.act.ensures.room, stack_is)
+
+pub returns-in-Err-clause-ran : goal.returns-in-Err-clause-ran
+returns-in-Err-clause-ran g c =
+    let C = g.C.Console in
+    let ready = c.args.self.now in
+    let main = c.main_method-main.result.now in
+    let image_is : c.self.inside.checked ≡ ready.image = ap (λ r. r.image) c.self.view_is in
+    let stack_is : c.self.inside.stack ≡ ready.stack = ap (λ r. r.stack) c.self.view_is in
+    let is_main = subst (λ image. method_of image image.main ≡ Some main) (c.image.ensures.all ∙ image_is) c.main_method-main.ensures in
+    let active = c.loop-insn.self-inside.1.1.1.1.0 in
+    let fits : main.body ≤ vec_capacity active.cells = omega (arith, c.if-from-need.false, c.from.ensures, c.from-need.ensures, stack_is, c.loop-insn.invariant.room) in
+    (ends-at C.left C.shown C.noted C.faults C.room ready (subst IsSmall image_is c.image.ensures.small) (subst IsChecked image_is c.image.ensures.checked) (subst IsBuilt image_is c.image.ensures.built)
+    c.args.ticks c.args.console.now main is_main c.as_slice-code.result.now c.as_slice-code.ensures c.loop-insn.console _ c.loop-insn.invariant.going
+    c.act.new.console _ c.execute-turn.new.cells.items c.in-Some.insn c.in-Some.size (vec_capacity active.cells) c.execute-turn.result
+    (sym c.decode_at.ensures.exact ∙ c.in-Some.is) fits c.execute-turn.ensures.turn c.in-Err.ending c.in-Err.ensures.acts).0
+
+pub returns-in-Err-clause-so_far : goal.returns-in-Err-clause-so_far
+returns-in-Err-clause-so_far g c =
+    let C = g.C.Console in
+    let ready = c.args.self.now in
+    let main = c.main_method-main.result.now in
+    let image_is : c.self.inside.checked ≡ ready.image = ap (λ r. r.image) c.self.view_is in
+    let stack_is : c.self.inside.stack ≡ ready.stack = ap (λ r. r.stack) c.self.view_is in
+    let is_main = subst (λ image. method_of image image.main ≡ Some main) (c.image.ensures.all ∙ image_is) c.main_method-main.ensures in
+    let active = c.loop-insn.self-inside.1.1.1.1.0 in
+    let fits : main.body ≤ vec_capacity active.cells = omega (arith, c.if-from-need.false, c.from.ensures, c.from-need.ensures, stack_is, c.loop-insn.invariant.room) in
+    (ends-at C.left C.shown C.noted C.faults C.room ready (subst IsSmall image_is c.image.ensures.small) (subst IsChecked image_is c.image.ensures.checked) (subst IsBuilt image_is c.image.ensures.built)
+    c.args.ticks c.args.console.now main is_main c.as_slice-code.result.now c.as_slice-code.ensures c.loop-insn.console _ c.loop-insn.invariant.going
+    c.act.new.console _ c.execute-turn.new.cells.items c.in-Some.insn c.in-Some.size (vec_capacity active.cells) c.execute-turn.result
+    (sym c.decode_at.ensures.exact ∙ c.in-Some.is) fits c.execute-turn.ensures.turn c.in-Err.ending c.in-Err.ensures.acts).1
+
+pub loop-insn-smaller : goal.loop-insn-smaller
+loop-insn-smaller g c =
+    let C = g.C.Console in
+    let ready = c.args.self.now in
+    let main = c.main_method-main.result.now in
+    let image_is : c.self.inside.checked ≡ ready.image = ap (λ r. r.image) c.self.view_is in
+    let stack_is : c.self.inside.stack ≡ ready.stack = ap (λ r. r.stack) c.self.view_is in
+    let is_main = subst (λ image. method_of image image.main ≡ Some main) (c.image.ensures.all ∙ image_is) c.main_method-main.ensures in
+    let active = c.loop-insn.self-inside.1.1.1.1.0 in
+    let fits : main.body ≤ vec_capacity active.cells = omega (arith, c.if-from-need.false, c.from.ensures, c.from-need.ensures, stack_is, c.loop-insn.invariant.room) in
+    (on-at C.left C.shown C.noted C.faults C.room ready (subst IsSmall image_is c.image.ensures.small) (subst IsChecked image_is c.image.ensures.checked) (subst IsBuilt image_is c.image.ensures.built)
+    c.args.ticks c.args.console.now main is_main c.as_slice-code.result.now c.as_slice-code.ensures c.loop-insn.console _ c.loop-insn.invariant.going
+    c.act.new.console _ c.execute-turn.new.cells.items c.in-Some.insn c.in-Some.size (vec_capacity active.cells) c.execute-turn.result
+    (sym c.decode_at.ensures.exact ∙ c.in-Some.is) fits c.execute-turn.ensures.turn c.in_default-act.ensures.acts).1
+
+pub loop-insn-preserved : goal.loop-insn-preserved
+loop-insn-preserved g c =
+    let C = g.C.Console in
+    let ready = c.args.self.now in
+    let main = c.main_method-main.result.now in
+    let image_is : c.self.inside.checked ≡ ready.image = ap (λ r. r.image) c.self.view_is in
+    let stack_is : c.self.inside.stack ≡ ready.stack = ap (λ r. r.stack) c.self.view_is in
+    let is_main = subst (λ image. method_of image image.main ≡ Some main) (c.image.ensures.all ∙ image_is) c.main_method-main.ensures in
+    let active = c.loop-insn.self-inside.1.1.1.1.0 in
+    let fits : main.body ≤ vec_capacity active.cells = omega (arith, c.if-from-need.false, c.from.ensures, c.from-need.ensures, stack_is, c.loop-insn.invariant.room) in
+    let on = (on-at C.left C.shown C.noted C.faults C.room ready (subst IsSmall image_is c.image.ensures.small) (subst IsChecked image_is c.image.ensures.checked) (subst IsBuilt image_is c.image.ensures.built)
+    c.args.ticks c.args.console.now main is_main c.as_slice-code.result.now c.as_slice-code.ensures c.loop-insn.console _ c.loop-insn.invariant.going
+    c.act.new.console _ c.execute-turn.new.cells.items c.in-Some.insn c.in-Some.size (vec_capacity active.cells) c.execute-turn.result
+    (sym c.decode_at.ensures.exact ∙ c.in-Some.is) fits c.execute-turn.ensures.turn c.in_default-act.ensures.acts) in
+    record { going = on.0; room = omega (arith, c.loop-insn.invariant.room, c.execute-turn.ensures.room, c.act.ensures.room) }

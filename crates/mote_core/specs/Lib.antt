@@ -1,0 +1,5 @@
+pub mod Ready
+pub mod Ran
+pub mod Good
+pub mod Turns
+pub mod Acts
