@@ -1,5 +1,5 @@
-pub mod CodeIsOne
-pub mod Endings
-pub mod FirstMain
-pub mod StraightRun
+pub mod CodeBody
 pub mod VerdictLaws
+pub mod Reading
+pub mod NumberSteps
+pub mod NumberRuns

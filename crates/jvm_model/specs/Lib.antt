@@ -1,6 +1,10 @@
 pub mod State
 pub mod Program
 pub mod Machine
+pub mod Body
 pub mod ProgramOf
-pub mod Verdict
-pub mod StraightMeaning
+pub mod NumberForm
+pub mod FrameCells
+pub mod Expansion
+pub mod ImageOf
+pub mod Accepted

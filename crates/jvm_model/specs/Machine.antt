@@ -10,24 +10,26 @@ use Rattle.cell_num.specs.declared.conditions.Cond.{Cond}
 use Rattle.cell_num.specs.Arithmetic.{applied}
 use Rattle.cell_num.specs.Conditions.{is_met}
 use Rattle.cell_num.specs.Conversions.{converted}
-use Rattle.dialogue.specs.Dialogue.{Item, Get, putting}
+use Rattle.dialogue.specs.Dialogue.{Get, putting}
+use Rattle.dialogue.specs.Limits.{Limits}
 use Rattle.dialogue.specs.Natives.{low_byte, next_byte, behind_byte}
 use Rattle.dialogue.specs.Outcome.{Outcome}
+use Rattle.dialogue.specs.Run as run
+use Rattle.dialogue.specs.Run.{Step, Goes, Ends, Stuck, Progress, Running, Over}
+use Rattle.class_code.specs.declared.insn.StackForm.{StackForm}
+use Rattle.class_code.specs.declared.insn.StackForm.TheVariants.{Pop, Pop2, Dup, DupX1, DupX2, Dup2, Dup2X1, Dup2X2, Swap}
+use Rattle.class_code.specs.declared.insn.SwitchRow.{SwitchRow}
 use Rattle.jvm_model.specs.State.{Value, Whole, Frame, State}
-use Rattle.jvm_model.specs.Program.{Native, WriteByte, PrintNumber, ReadByte, Callee, OfLibrary, StackForm, Pop, Pop2, Dup, DupX1, DupX2, Dup2, Dup2X1, Dup2X2, Swap, Family, Nop, Const, Load, Store, Inc, Stack, Bin, Negate, Convert, If, IfCmp, Goto, Switch, CallStatic, Return, Placed, Program}
+use Rattle.jvm_model.specs.Program.{Native, WriteByte, PrintNumber, ReadByte, Callee, OfLibrary, Family, Nop, Const, Load, Store, Inc, Stack, Bin, Negate, Convert, If, IfCmp, Goto, Switch, CallStatic, Return, Placed, Program}
 
--- the oldest frame, which is main's, returned; a throw had no handler in any frame; or the next tick would
--- exceed the budget
+-- the oldest frame, which is main's, returned; a throw of this class had no handler in any frame; the next
+-- tick would exceed the budget; or an object did not fit the heap, or a frame the stack
 pub data Ending : Type 0 where
   Done : Ending
   Uncaught : (class : List ℕ) → Ending
   Spent : Ending
-
--- what one step does: it goes on with items of the dialogue, it ends the run, or there is no such step
-pub data Step : Type 0 where
-  Goes : (items : List Item) (next : State) → Step
-  Ends : (ending : Ending) → Step
-  Stuck : Step
+  HeapWanted : (need live : ℕ) → Ending
+  StackWanted : (need used : ℕ) → Ending
 
 -- ---- parts of a step
 
@@ -36,24 +38,24 @@ abbrev pub with_frame : State → Frame → List Frame → State
 with_frame state frame others = record state { frames = frame ∷ others }
 
 -- the frame goes on at a pc with these operands
-abbrev pub goes_on : State → Frame → List Frame → ℕ → List Value → Step
+abbrev pub goes_on : State → Frame → List Frame → ℕ → List Value → Step State Ending
 goes_on state frame others next operands = Goes [] (with_frame state (record frame { pc = next; operands = operands }) others)
 
 -- one more tick, if the budget allows it
 abbrev pub ticked : State → State
 ticked state = record { frames = state.frames; objects = state.objects; statics = state.statics; input = state.input; ticks = state.ticks + 1 }
 
-abbrev pub within_budget : ℕ → State → Step → Step
+abbrev pub within_budget : ℕ → State → Step State Ending → Step State Ending
 within_budget budget state step = if nat_le (state.ticks + 1) budget then step else Ends Spent
 
 -- a jump that is taken; one to a target that is not after its instruction is a tick
-abbrev pub jumps : ℕ → State → Frame → List Frame → ℕ → List Value → Step
+abbrev pub jumps : ℕ → State → Frame → List Frame → ℕ → List Value → Step State Ending
 jumps budget state frame others target operands =
     if nat_lt frame.pc target then goes_on state frame others target operands
     else within_budget budget state (goes_on (ticked state) frame others target operands)
 
 -- a throw of the machine's own; no frame has a handler so far
-abbrev pub throws : List ℕ → Step
+abbrev pub throws : List ℕ → Step State Ending
 throws class = Ends (Uncaught class)
 
 abbrev pub local_at : Frame → ℕ → Option Value
@@ -61,7 +63,7 @@ local_at frame local = option_and_then (λ value. value) (slice_get frame.locals
 
 -- ---- the families (JVMS 6.5)
 
-abbrev pub step_load : State → Frame → List Frame → ℕ → Option Value → Step
+abbrev pub step_load : State → Frame → List Frame → ℕ → Option Value → Step State Ending
 step_load state frame others next None = Stuck
 step_load state frame others next (Some value) = goes_on state frame others next (value ∷ frame.operands)
 
@@ -69,12 +71,12 @@ step_load state frame others next (Some value) = goes_on state frame others next
 abbrev pub with_local : Frame → ℕ → Value → List Value → Frame
 with_local frame local value operands = record { class = frame.class; method = frame.method; pc = frame.pc; locals = slice_set frame.locals local (Some value); operands = operands }
 
-abbrev pub step_store : State → Frame → List Frame → ℕ → ℕ → List Value → Step
+abbrev pub step_store : State → Frame → List Frame → ℕ → ℕ → List Value → Step State Ending
 step_store state frame others next local [] = Stuck
 step_store state frame others next local (value ∷ operands) = goes_on state (with_local frame local value operands) others next operands
 
 -- the local and the amount, wrapped to 32 bits
-abbrev pub step_inc : State → Frame → List Frame → ℕ → ℕ → ℤ → Option Value → Step
+abbrev pub step_inc : State → Frame → List Frame → ℕ → ℕ → ℤ → Option Value → Step State Ending
 step_inc state frame others next local amount (Some (Whole number)) =
     goes_on state (with_local frame local (Whole (int_wrap w32 (number +ℤ amount))) frame.operands) others next frame.operands
 step_inc state frame others next local amount _ = Stuck
@@ -92,55 +94,55 @@ restacked Dup2X2 (a ∷ b ∷ c ∷ d ∷ rest) = Some (a ∷ b ∷ c ∷ d ∷ 
 restacked Swap (a ∷ b ∷ rest) = Some (b ∷ a ∷ rest)
 restacked _ _ = None
 
-abbrev pub step_stack : State → Frame → List Frame → ℕ → Option (List Value) → Step
+abbrev pub step_stack : State → Frame → List Frame → ℕ → Option (List Value) → Step State Ending
 step_stack state frame others next None = Stuck
 step_stack state frame others next (Some operands) = goes_on state frame others next operands
 
 -- a zero divisor throws ArithmeticException
-abbrev pub step_result : State → Frame → List Frame → ℕ → List Value → Option ℤ → Step
+abbrev pub step_result : State → Frame → List Frame → ℕ → List Value → Option ℤ → Step State Ending
 step_result state frame others next operands None = throws (codes "java/lang/ArithmeticException")
 step_result state frame others next operands (Some number) = goes_on state frame others next (Whole number ∷ operands)
 
-abbrev pub step_bin : State → Frame → List Frame → ℕ → BinOp → List Value → Step
+abbrev pub step_bin : State → Frame → List Frame → ℕ → BinOp → List Value → Step State Ending
 step_bin state frame others next op (Whole b ∷ Whole a ∷ operands) = step_result state frame others next operands (applied op a b)
 step_bin state frame others next op _ = Stuck
 
-abbrev pub step_unary : State → Frame → List Frame → ℕ → (ℤ → ℤ) → List Value → Step
+abbrev pub step_unary : State → Frame → List Frame → ℕ → (ℤ → ℤ) → List Value → Step State Ending
 step_unary state frame others next f (Whole number ∷ operands) = goes_on state frame others next (Whole (f number) ∷ operands)
 step_unary state frame others next f _ = Stuck
 
-abbrev pub branches : ℕ → State → Frame → List Frame → ℕ → ℕ → List Value → Bool → Step
+abbrev pub branches : ℕ → State → Frame → List Frame → ℕ → ℕ → List Value → Bool → Step State Ending
 branches budget state frame others next target operands taken =
     if taken then jumps budget state frame others target operands else goes_on state frame others next operands
 
-abbrev pub step_if : ℕ → State → Frame → List Frame → ℕ → Cond → ℕ → List Value → Step
+abbrev pub step_if : ℕ → State → Frame → List Frame → ℕ → Cond → ℕ → List Value → Step State Ending
 step_if budget state frame others next cond target (Whole number ∷ operands) = branches budget state frame others next target operands (is_met cond number (pos 0))
 step_if budget state frame others next cond target _ = Stuck
 
-abbrev pub step_if_cmp : ℕ → State → Frame → List Frame → ℕ → Cond → ℕ → List Value → Step
+abbrev pub step_if_cmp : ℕ → State → Frame → List Frame → ℕ → Cond → ℕ → List Value → Step State Ending
 step_if_cmp budget state frame others next cond target (Whole b ∷ Whole a ∷ operands) = branches budget state frame others next target operands (is_met cond a b)
 step_if_cmp budget state frame others next cond target _ = Stuck
 
 -- the target of the row with this key
-abbrev pub row_target : ℤ → List (ℤ × ℕ) → Option ℕ
+abbrev pub row_target : ℤ → List SwitchRow → Option ℕ
 row_target key [] = None
-row_target key (row ∷ rows) = if int_eq row.0 key then Some row.1 else row_target key rows
+row_target key (row ∷ rows) = if int_eq row.key key then Some row.target else row_target key rows
 
 -- a switch is a jump, its default too
-abbrev pub step_switch : ℕ → State → Frame → List Frame → List (ℤ × ℕ) → ℕ → List Value → Step
+abbrev pub step_switch : ℕ → State → Frame → List Frame → List SwitchRow → ℕ → List Value → Step State Ending
 step_switch budget state frame others rows default (Whole key ∷ operands) = jumps budget state frame others (unwrap_or (row_target key rows) default) operands
 step_switch budget state frame others rows default _ = Stuck
 
 -- ---- calls
 
 -- write(I)V shows the low eight bits of its argument; print(I)V shows it in decimal
-abbrev pub step_show : ℕ → State → Frame → List Frame → ℕ → (ℤ → List ℕ) → List Value → Step
+abbrev pub step_show : ℕ → State → Frame → List Frame → ℕ → (ℤ → List ℕ) → List Value → Step State Ending
 step_show budget state frame others next bytes (Whole number ∷ operands) =
     within_budget budget state (Goes (putting (bytes number)) (with_frame (ticked state) (record frame { pc = next; operands = operands }) others))
 step_show budget state frame others next bytes _ = Stuck
 
 -- read()I gives the value of the next byte of the input, or -1 at its end
-abbrev pub step_read : ℕ → State → Frame → List Frame → ℕ → Step
+abbrev pub step_read : ℕ → State → Frame → List Frame → ℕ → Step State Ending
 step_read budget state frame others next =
     within_budget budget state
     (Goes (Get ∷ [])
@@ -152,26 +154,26 @@ step_read budget state frame others next =
       ticks = state.ticks + 1;
     }))
 
-abbrev pub step_native : ℕ → State → Frame → List Frame → ℕ → Native → Step
+abbrev pub step_native : ℕ → State → Frame → List Frame → ℕ → Native → Step State Ending
 step_native budget state frame others next WriteByte = step_show budget state frame others next (λ number. low_byte number ∷ []) frame.operands
 step_native budget state frame others next PrintNumber = step_show budget state frame others next signed_decimal frame.operands
 step_native budget state frame others next ReadByte = step_read budget state frame others next
 
-abbrev pub step_call : ℕ → State → Frame → List Frame → ℕ → Callee → Step
+abbrev pub step_call : ℕ → State → Frame → List Frame → ℕ → Callee → Step State Ending
 step_call budget state frame others next (OfLibrary native) = step_native budget state frame others next native
 
 -- the caller goes on behind its call; the return of the oldest frame ends the run
-abbrev pub resume : State → Frame → List Frame → Option Placed → Step
+abbrev pub resume : State → Frame → List Frame → Option Placed → Step State Ending
 resume state caller others None = Stuck
 resume state caller others (Some call) = Goes [] (with_frame state (record caller { pc = call.next }) others)
 
-abbrev pub step_return : Program → State → List Frame → Step
+abbrev pub step_return : Program → State → List Frame → Step State Ending
 step_return program state [] = Ends Done
 step_return program state (caller ∷ others) = resume state caller others (program.family_at caller.class caller.method caller.pc)
 
 -- ---- the step
 
-abbrev pub step_family : Program → ℕ → State → Frame → List Frame → ℕ → Family → Step
+abbrev pub step_family : Program → ℕ → State → Frame → List Frame → ℕ → Family → Step State Ending
 step_family program budget state frame others next Nop = goes_on state frame others next frame.operands
 step_family program budget state frame others next (Const value) = goes_on state frame others next (value ∷ frame.operands)
 step_family program budget state frame others next (Load local) = step_load state frame others next (local_at frame local)
@@ -184,46 +186,28 @@ step_family program budget state frame others next (Convert conv) = step_unary s
 step_family program budget state frame others next (If cond target) = step_if budget state frame others next cond target frame.operands
 step_family program budget state frame others next (IfCmp cond target) = step_if_cmp budget state frame others next cond target frame.operands
 step_family program budget state frame others next (Goto target) = jumps budget state frame others target frame.operands
-step_family program budget state frame others next (Switch rows default) = step_switch budget state frame others rows default frame.operands
+step_family program budget state frame others next (Switch form rows default) = step_switch budget state frame others rows default frame.operands
 step_family program budget state frame others next (CallStatic callee) = step_call budget state frame others next callee
 step_family program budget state frame others next Return = step_return program state others
 
-abbrev pub step_placed : Program → ℕ → State → Frame → List Frame → Option Placed → Step
+abbrev pub step_placed : Program → ℕ → State → Frame → List Frame → Option Placed → Step State Ending
 step_placed program budget state frame others None = Stuck
 step_placed program budget state frame others (Some placed) = step_family program budget state frame others placed.next placed.family
 
-abbrev pub step_frames : Program → ℕ → State → List Frame → Step
+abbrev pub step_frames : Program → ℕ → State → List Frame → Step State Ending
 step_frames program budget state [] = Stuck
 step_frames program budget state (frame ∷ others) =
     step_placed program budget state frame others (program.family_at frame.class frame.method frame.pc)
 
 -- the step from a state
-abbrev pub step : Program → ℕ → State → Step
+abbrev pub step : Program → ℕ → State → Step State Ending
 step program budget state = step_frames program budget state state.frames
 
 -- ---- the run
 
--- how far a run has come: what it has said and where it is, how it ended, or that it is stuck
-pub data Progress : Type 0 where
-  Running : (said : List Item) (state : State) → Progress
-  Over : (outcome : Outcome Ending) → Progress
-  Lost : Progress
-
-abbrev pub after_step : List Item → State → Step → Progress
-after_step said state (Goes items next) = Running (said ++ items) next
-after_step said state (Ends ending) = Over (record { ending = ending; dialogue = said; left = state.input })
-after_step said state Stuck = Lost
-
--- one step more; after an end nothing changes
-abbrev pub advance : Program → ℕ → Progress → Progress
-advance program budget (Running said state) = after_step said state (step program budget state)
-advance program budget (Over outcome) = Over outcome
-advance program budget Lost = Lost
-
--- at most so many steps from a state
-abbrev pub run_from : Program → ℕ → State → ℕ → Progress
-run_from program budget start zero = Running [] start
-run_from program budget start (suc steps) = advance program budget (run_from program budget start steps)
+-- the machine of a program with a budget of ticks
+abbrev pub machine : Program → ℕ → run.Machine State Ending
+machine program budget = record { step = step program budget; left = λ state. state.input }
 
 -- main's frame with no local set, no objects, the statics as they are set, all of the input, no ticks
 abbrev pub start_of : Program → List ℕ → State
@@ -237,6 +221,16 @@ start_of program input =
     }
 
 -- the run of the program on this input and budget ends so
-pub record EndsSo (program : Program) (budget : ℕ) (input : List ℕ) (outcome : Outcome Ending) : Type 0 where
-  pub steps : ℕ
-  pub over : run_from program budget (start_of program input) steps ≡ Over outcome
+abbrev pub EndsSo : Program → ℕ → List ℕ → Outcome Ending → Type 0
+EndsSo program budget input outcome = run.EndsSo (machine program budget) (Running [] (start_of program input)) outcome
+
+-- ---- the limited run
+
+-- main's frame, of so many cells, is tested first, with no cell in use
+abbrev pub start_within : Program → ℕ → Limits → List ℕ → Progress State Ending
+start_within program cells limits input =
+    if nat_le cells limits.stack then Running [] (start_of program input) else Over [] (start_of program input) (StackWanted cells 0)
+
+-- the limited run of the program, of which main's frame has so many cells, ends so on this input
+abbrev pub LimitedSo : Program → ℕ → Limits → List ℕ → Outcome Ending → Type 0
+LimitedSo program cells limits input outcome = run.EndsSo (machine program limits.ticks) (start_within program cells limits input) outcome

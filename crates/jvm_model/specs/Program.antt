@@ -4,6 +4,9 @@ use Rattle.std.specs.Prelude.{ℕ, ℤ, Option, List}
 use Rattle.cell_num.specs.declared.arithmetic.BinOp.{BinOp}
 use Rattle.cell_num.specs.declared.conditions.Cond.{Cond}
 use Rattle.cell_num.specs.declared.conversions.Conv.{Conv}
+use Rattle.class_code.specs.declared.insn.StackForm.{StackForm}
+use Rattle.class_code.specs.declared.insn.SwitchForm.{SwitchForm}
+use Rattle.class_code.specs.declared.insn.SwitchRow.{SwitchRow}
 use Rattle.jvm_model.specs.State.{FieldName, Value}
 
 -- the natives of the library, all of mote/Console
@@ -19,18 +22,6 @@ pub data Native : Type 0 where
 pub data Callee : Type 0 where
   OfLibrary : (native : Native) → Callee
 
--- the stack instructions pop to swap (JVMS 6.5)
-pub data StackForm : Type 0 where
-  Pop : StackForm
-  Pop2 : StackForm
-  Dup : StackForm
-  DupX1 : StackForm
-  DupX2 : StackForm
-  Dup2 : StackForm
-  Dup2X1 : StackForm
-  Dup2X2 : StackForm
-  Swap : StackForm
-
 -- the families of instructions (JVMS 6.5); a target is a pc
 pub data Family : Type 0 where
   Nop : Family
@@ -45,7 +36,7 @@ pub data Family : Type 0 where
   If : (cond : Cond) (target : ℕ) → Family
   IfCmp : (cond : Cond) (target : ℕ) → Family
   Goto : (target : ℕ) → Family
-  Switch : (rows : List (ℤ × ℕ)) (default : ℕ) → Family
+  Switch : (form : SwitchForm) (rows : List SwitchRow) (default : ℕ) → Family
   CallStatic : (callee : Callee) → Family
   Return : Family
 

@@ -1,27 +1,29 @@
 -- The program that a class file is.
-use Rattle.std.specs.Prelude.{ℕ, ◌+◌, ◌==◌, if◌then◌else◌, drop, List, [], Option, Some, None, option_map, option_and_then, slice_get}
+use Rattle.std.specs.Prelude.{ℕ, ◌==◌, if◌then◌else◌, List, [], ◌∷◌, length, Option, Some, None, option_and_then, slice_get, Result, Ok, Err}
+use Rattle.class_code.specs.declared.refusal.CodeRefusal.{CodeRefusal}
+use Rattle.class_code.specs.Code.{Insns, decoded}
 use Rattle.class_file.specs.declared.record.ClassFile.{ClassFile}
 use Rattle.class_file.specs.declared.record.Member.{Member}
 use Rattle.class_file.specs.declared.record.CodeAttr.{CodeAttr}
-use Rattle.class_file.specs.declared.straight.StraightInsn.{StraightInsn}
-use Rattle.class_file.specs.declared.straight.StraightInsn.TheVariants as insns
 use Rattle.class_file.specs.Pool.{Places}
-use Rattle.class_file.specs.Straight.{front_insn}
-use Rattle.jvm_model.specs.State.{Whole}
-use Rattle.jvm_model.specs.Program.{Family, Const, CallStatic, Return, OfLibrary, WriteByte, Placed, Program}
+use Rattle.jvm_model.specs.Program.{Placed, Program}
+use Rattle.jvm_model.specs.Body.{Body, families_of, placed_in}
 
 -- the number of the first file's class; the numbers below are the library's
 abbrev pub first_class : ℕ
 first_class = 32
 
-abbrev pub family_of : StraightInsn → Family
-family_of (insns.Push value) = Const (Whole value)
-family_of insns.Write = CallStatic (OfLibrary WriteByte)
-family_of insns.Return = Return
+abbrev pub insns_in : Result Insns CodeRefusal → Option Insns
+insns_in (Ok insns) = Some insns
+insns_in (Err why) = None
+
+-- the body of some code, where it is instructions that have a family each
+abbrev pub body_of : Places → CodeAttr → Option Body
+body_of pool code = option_and_then (families_of pool) (insns_in (decoded code.code))
 
 -- the family at a pc of some code
 abbrev pub family_in : Places → ℕ → CodeAttr → Option Placed
-family_in pool pc code = option_map (λ front. record { family = family_of front.0; next = pc + front.1 }) (front_insn pool (drop pc code.code))
+family_in pool pc code = option_and_then (λ body. placed_in body (length code.code) pc) (body_of pool code)
 
 abbrev pub code_of_method : List Member → ℕ → Option CodeAttr
 code_of_method methods method = option_and_then (λ m. m.code) (slice_get methods method)

@@ -1,32 +1,30 @@
-ghost use Rattle.std.specs.Prelude.{◌≡◌, ◌≢◌, ℕ, ◌≤◌, ◌<◌, ◌↔◌, List, [], ◌∷◌, take, slice_index, Some, Ok};
+ghost use Rattle.std.specs.Prelude.{◌≡◌, ℕ, List};
+ghost use Rattle.dialogue.specs.Limits.{Limits};
 ghost use Rattle.dialogue.specs.Outcome.{Outcome};
 ghost use Rattle.class_file.specs.declared.record.ClassFile.{ClassFile};
-ghost use Rattle.class_file.specs.Layout.{magic};
-ghost use Rattle.class_file.specs.FirstForm.{IsFirstForm};
-ghost use Rattle.jvm_model.specs.declared.refusal.Cause.TheVariants.{NotClass, Unbuilt};
+ghost use Rattle.class_file.specs.declared.record.CodeAttr.{CodeAttr};
+ghost use Rattle.jvm_model.specs.declared.refusal.Refusal.{Refusal};
 ghost use Rattle.jvm_model.specs.Program.{Program};
+ghost use Rattle.jvm_model.specs.Body.{Body};
 ghost use Rattle.jvm_model.specs.ProgramOf.{program_of};
-ghost use Rattle.jvm_model.specs.Machine.{Ending, Done, EndsSo};
-ghost use Rattle.jvm_model.specs.Verdict.{accepted, verdict, refusal_by};
+ghost use Rattle.jvm_model.specs.Machine.{Ending, EndsSo, LimitedSo};
+ghost use Rattle.jvm_model.specs.Accepted.{IsNumberFile, IsAccepted, IsRefused};
 
-/// The run of a program on a budget and an input ends in one way at most.
+/// The run of a program on a budget and an input ends in one way at most, and so does its limited run.
 pub fn one_ending()
-    ensures { (program : Program) (budget : ℕ) (input : List ℕ) (first second : Outcome Ending) → EndsSo program budget input first → EndsSo program budget input second → first ≡ second }
+    ensures run { (program : Program) (budget : ℕ) (input : List ℕ) (first second : Outcome Ending) → EndsSo program budget input first → EndsSo program budget input second → first ≡ second }
+    ensures limited_run { (program : Program) (cells : ℕ) (limits : Limits) (input : List ℕ) (first second : Outcome Ending) → LimitedSo program cells limits input first → LimitedSo program cells limits input second → first ≡ second }
 {}
 
-/// A class of the first form runs to its end wherever the budget has ten thousand ticks, which is a
-/// tick for each byte of the longest code, and it leaves all of the input.
-pub fn straight_line_code_ends()
-    ensures { (bytes : List ℕ) (file : ClassFile) → IsFirstForm bytes file → (budget : ℕ) → 10000 ≤ budget → (input : List ℕ) → (outcome : Outcome Ending) × EndsSo (program_of file) budget input outcome × (outcome.ending ≡ Done) × (outcome.left ≡ input) }
+/// The limited run of a class file of the number form ends, whatever its limits and its input.
+pub fn number_code_ends()
+    ensures { (bytes : List ℕ) (file : ClassFile) (code : CodeAttr) (body : Body) → IsNumberFile bytes file code body → (cells : ℕ) (limits : Limits) (input : List ℕ) → (outcome : Outcome Ending) × LimitedSo (program_of file) cells limits input outcome }
 {}
 
-/// A set of one file, a list of bytes, is accepted with a class exactly where the bytes are a class file
-/// of the first form with this record. Any other is refused: as no class where it does not begin with
-/// the four bytes of a class file, and else as not built.
-pub fn the_verdict_is_the_form()
-    ensures accepted { (bytes : List ℕ) (file : ClassFile) → ((i : ℕ) → slice_index bytes i < 256)
-        → (accepted (bytes ∷ []) ≡ Ok file) ↔ IsFirstForm bytes file }
-    ensures no_class { (bytes : List ℕ) → (verdict (bytes ∷ []) ≡ Some (refusal_by NotClass)) ↔ (take 4 bytes ≢ magic) }
-    ensures unbuilt { (bytes : List ℕ) → ((i : ℕ) → slice_index bytes i < 256)
-        → (verdict (bytes ∷ []) ≡ Some (refusal_by Unbuilt)) ↔ ((take 4 bytes ≡ magic) × ((file : ClassFile) → IsFirstForm bytes file → ⊥)) }
+/// The verdict on a set of files, each a list of bytes, is one: an accepted set is not refused, it has one
+/// record, one code and one body, and a refused set is refused in one way.
+pub fn the_verdict_is_one()
+    ensures exclusive { (files : List (List ℕ)) (file : ClassFile) (code : CodeAttr) (body : Body) (refusal : Refusal) → IsAccepted files file code body → IsRefused files refusal → ⊥ }
+    ensures one_refusal { (files : List (List ℕ)) (first second : Refusal) → IsRefused files first → IsRefused files second → first ≡ second }
+    ensures one_acceptance { (files : List (List ℕ)) (file : ClassFile) (code : CodeAttr) (body : Body) (other : ClassFile) (second : CodeAttr) (last : Body) → IsAccepted files file code body → IsAccepted files other second last → (file ≡ other) × (code ≡ second) × (body ≡ last) }
 {}

@@ -5,6 +5,10 @@ pub enum Cause {
     NotClass,
     /// The set is of no form that is built.
     Unbuilt,
+    /// A method's frame exceeds 32,767 cells; the value is their number.
+    FrameTooLarge,
+    /// A method's machine code exceeds 65,535 bytes; the value is their number.
+    CodeTooLong,
     /// There was no memory.
     Memory,
 }
