@@ -1,0 +1,126 @@
+-- A conversion of the typed machine is two or three steps of the split machine.
+use Rattle.std.proofs.Common.{◌≡◌, ℕ, ℤ, pos, ◌+◌, Bool, true, cond, List, [], ◌∷◌, ◌++◌, length, drop, map, Some, None, refl, sym, ap, ◌∙◌, arith}
+use Rattle.std.specs.Prelude.{nat_le}
+use Rattle.std.specs.List.{AllByRecursion, flat_map}
+use Rattle.std.proofs.lemmas.Bool.{le-leb}
+use Rattle.std.proofs.lemmas.List.{drop-drop}
+use Rattle.cell_num.specs.declared.conversions.Conv.{Conv}
+use Rattle.cell_num.specs.declared.conversions.Conv.TheVariants as conv
+use Rattle.cell_num.specs.Cells.{sign_extended, low_cell, high_cell}
+use Rattle.cell_num.specs.Conversions.{converted}
+use Rattle.dialogue.specs.Limits.{Limits}
+use Rattle.dialogue.specs.Run.{Step, Goes}
+use Rattle.dialogue.specs.Simulation.{Matches}
+use Rattle.class_file.specs.declared.record.ClassFile.{ClassFile}
+use Rattle.class_file.specs.declared.record.CodeAttr.{CodeAttr}
+use Rattle.image_instr.specs.declared.insn.MInsn.{MInsn}
+use Rattle.image_instr.specs.declared.insn.MInsn.TheVariants as insns
+use Rattle.image_instr.specs.Insn.{insn_bytes, IsInsn}
+use Rattle.jvm_model.specs.State.{Whole}
+use Rattle.jvm_model.specs.Machine as typed
+use Rattle.jvm_model.specs.Body.{Body}
+use Rattle.jvm_model.specs.Expansion.{conversion, emitted_bytes}
+use Rattle.jvm_model.specs.ImageOf.{image_of, code_for}
+use Rattle.mote_model.specs.State as split_state
+use Rattle.mote_model.specs.declared.ending.Ending as split_ending
+use Rattle.mote_model.specs.Machine as split
+use Rattle.mote_model.specs.Numbers.{with_number}
+use Rattle.infuse_link.specs.RunsAlike.{SameEnding}
+use Rattle.infuse_link.proofs.Belong.{Point, Belong, IsPoint, cells_of, typed_frame, typed_at, frame_at, state_at, place_in}
+use Rattle.infuse_link.proofs.AgreedSteps.{split_step}
+use Rattle.infuse_link.proofs.FamiliesNumber.{AreFitting, moved}
+use Rattle.infuse_link.proofs.ConvertedCells.{short_cell, byte_again, converted-fits, two_steps, three_steps}
+
+-- the instruction stands at the offset, and these bytes behind it
+abbrev StandsBefore : Body → ℕ → MInsn → List ℕ → Type 0
+StandsBefore body offset insn behind = drop offset (code_for body) ≡ insn_bytes insn [] ++ behind
+
+-- then they stand at the next offset
+behind_it : (body : Body) (offset : ℕ) (insn : MInsn) (behind : List ℕ) (size : ℕ) → StandsBefore body offset insn behind → drop size (insn_bytes insn [] ++ behind) ≡ behind → drop (offset + size) (code_for body) ≡ behind
+behind_it body offset insn behind size stands dropped = sym (drop-drop size offset (code_for body)) ∙ ap (drop size) stands ∙ dropped
+
+module _ (file : ClassFile) (code : CodeAttr) (body : Body) (limits : Limits) (cells input : List ℕ) (ticks : ℕ) where
+  abbrev steps_from : split_state.State → Step split_state.State split_ending.Ending
+  steps_from state = (split.machine (image_of file code body) limits).step state
+
+  abbrev at : ℕ → List ℕ → split_state.State
+  at offset operands = state_at offset cells operands input ticks
+
+  -- POP of one cell
+  pop_step : (offset cell : ℕ) (operands behind : List ℕ) → IsInsn (insns.Pop 1) [] → StandsBefore body offset (insns.Pop 1) behind → steps_from (at offset (cell ∷ operands)) ≡ Goes [] (at (offset + 2) operands)
+  pop_step offset cell operands behind is stands =
+      let there : nat_le 1 (length (cell ∷ operands)) ≡ true = le-leb _ _ (omega arith) in
+      split_step file code body limits offset cells (cell ∷ operands) input ticks behind (insns.Pop 1) [] is stands
+      ∙ ap (λ (b : Bool). split.goes_with (at offset (cell ∷ operands)) (frame_at offset cells (cell ∷ operands)) [] (offset + 2) (cond b (Some operands) None)) there
+
+  sx_step : (offset cell : ℕ) (operands behind : List ℕ) → IsInsn insns.Sx [] → StandsBefore body offset insns.Sx behind → steps_from (at offset (cell ∷ operands)) ≡ Goes [] (at (offset + 1) (with_number (sign_extended cell) operands))
+  sx_step offset cell operands behind is stands = split_step file code body limits offset cells (cell ∷ operands) input ticks behind insns.Sx [] is stands
+
+  zx_step : (offset cell : ℕ) (operands behind : List ℕ) → IsInsn insns.Zx [] → StandsBefore body offset insns.Zx behind → steps_from (at offset (cell ∷ operands)) ≡ Goes [] (at (offset + 1) (with_number (pos cell) operands))
+  zx_step offset cell operands behind is stands = split_step file code body limits offset cells (cell ∷ operands) input ticks behind insns.Zx [] is stands
+
+  sb_step : (offset cell : ℕ) (operands behind : List ℕ) → IsInsn insns.Sb [] → StandsBefore body offset insns.Sb behind → steps_from (at offset (cell ∷ operands)) ≡ Goes [] (at (offset + 1) (low_cell (converted conv.Byte (sign_extended cell)) ∷ operands))
+  sb_step offset cell operands behind is stands = split_step file code body limits offset cells (cell ∷ operands) input ticks behind insns.Sb [] is stands
+
+-- the bytes of a conversion
+abbrev pub conversion_bytes : Conv → List ℕ
+conversion_bytes c = flat_map emitted_bytes (conversion c)
+
+module _ (file : ClassFile) (code : CodeAttr) (body : Body) (limits : Limits) (p : Point) (is : IsPoint code body p) (next : ℕ) where
+  abbrev Follow : List ℤ → Conv → Type 0
+  Follow numbers c = Matches (split.machine (image_of file code body) limits) (SameEnding (image_of file code body)) (Belong file code body) p.input (state_at (place_in body p.pc) p.cells (cells_of numbers) p.input p.ticks) (typed.step_unary (typed_at p) (typed_frame p) [] next (converted c) (map Whole numbers))
+
+  -- where the last step arrives
+  arrives : (c : Conv) (number pushed : ℤ) (numbers : List ℤ) (offset : ℕ) → AreFitting numbers → pushed ≡ converted c number → place_in body next ≡ offset → Belong file code body (typed_at (moved p next (converted c number ∷ numbers))) (state_at offset p.cells (with_number pushed (cells_of numbers)) p.input p.ticks)
+  arrives c number pushed numbers offset fits pushed_is place_is =
+      record {
+        point = moved p next (converted c number ∷ numbers);
+        is_point = record { fits = (converted-fits c number, fits); places = is.places; count = is.count; bits = is.bits; set = is.set };
+        typed_is = refl;
+        split_is = ap (λ (at : ℕ). state_at at p.cells (with_number pushed (cells_of numbers)) p.input p.ticks) (sym place_is) ∙ ap (λ (z : ℤ). state_at (place_in body next) p.cells (with_number z (cells_of numbers)) p.input p.ticks) pushed_is;
+      }
+
+  pub converts : (c : Conv) (numbers : List ℤ) (behind : List ℕ) → AreFitting numbers → AllByRecursion (λ e. IsInsn e.0 e.1) (conversion c) → drop (place_in body p.pc) (code_for body) ≡ conversion_bytes c ++ behind → place_in body next ≡ place_in body p.pc + length (conversion_bytes c) → Follow numbers c
+  converts c [] behind fits are stands place_is = tt
+  converts conv.Byte (number ∷ numbers) behind (fit, fits) (pop, (sb, (sx, _))) stands place_is =
+      let offset = place_in body p.pc in
+      let rest = cells_of numbers in
+      let low = low_cell number in
+      let byte = low_cell (converted conv.Byte (sign_extended low)) in
+      let second : drop (offset + 2) (code_for body) ≡ 0x43 ∷ 0x41 ∷ behind = behind_it body offset (insns.Pop 1) (0x43 ∷ 0x41 ∷ behind) 2 stands refl in
+      let third : drop (offset + 2 + 1) (code_for body) ≡ 0x41 ∷ behind = behind_it body (offset + 2) insns.Sb (0x41 ∷ behind) 1 second refl in
+      λ said. record {
+        steps = 3;
+        next = state_at (offset + 2 + 1 + 1) p.cells (with_number (sign_extended byte) rest) p.input p.ticks;
+        running = three_steps (split.machine (image_of file code body) limits) said (state_at offset p.cells (cells_of (number ∷ numbers)) p.input p.ticks) (state_at (offset + 2) p.cells (low ∷ rest) p.input p.ticks) (state_at (offset + 2 + 1) p.cells (byte ∷ rest) p.input p.ticks) (state_at (offset + 2 + 1 + 1) p.cells (with_number (sign_extended byte) rest) p.input p.ticks)
+            (pop_step file code body limits p.cells p.input p.ticks offset (high_cell number) (low ∷ rest) (0x43 ∷ 0x41 ∷ behind) pop stands)
+            (sb_step file code body limits p.cells p.input p.ticks (offset + 2) low rest (0x41 ∷ behind) sb second)
+            (sx_step file code body limits p.cells p.input p.ticks (offset + 2 + 1) byte rest behind sx third);
+        holds = arrives conv.Byte number (sign_extended byte) numbers (offset + 2 + 1 + 1) fits (byte_again number fit) (omega (arith, place_is));
+      }
+  converts conv.Short (number ∷ numbers) behind (fit, fits) (pop, (sx, _)) stands place_is =
+      let offset = place_in body p.pc in
+      let rest = cells_of numbers in
+      let low = low_cell number in
+      let second : drop (offset + 2) (code_for body) ≡ 0x41 ∷ behind = behind_it body offset (insns.Pop 1) (0x41 ∷ behind) 2 stands refl in
+      λ said. record {
+        steps = 2;
+        next = state_at (offset + 2 + 1) p.cells (with_number (sign_extended low) rest) p.input p.ticks;
+        running = two_steps (split.machine (image_of file code body) limits) said (state_at offset p.cells (cells_of (number ∷ numbers)) p.input p.ticks) (state_at (offset + 2) p.cells (low ∷ rest) p.input p.ticks) (state_at (offset + 2 + 1) p.cells (with_number (sign_extended low) rest) p.input p.ticks)
+            (pop_step file code body limits p.cells p.input p.ticks offset (high_cell number) (low ∷ rest) (0x41 ∷ behind) pop stands)
+            (sx_step file code body limits p.cells p.input p.ticks (offset + 2) low rest behind sx second);
+        holds = arrives conv.Short number (sign_extended low) numbers (offset + 2 + 1) fits (short_cell number fit) (omega (arith, place_is));
+      }
+  converts conv.Char (number ∷ numbers) behind (fit, fits) (pop, (zx, _)) stands place_is =
+      let offset = place_in body p.pc in
+      let rest = cells_of numbers in
+      let low = low_cell number in
+      let second : drop (offset + 2) (code_for body) ≡ 0x42 ∷ behind = behind_it body offset (insns.Pop 1) (0x42 ∷ behind) 2 stands refl in
+      λ said. record {
+        steps = 2;
+        next = state_at (offset + 2 + 1) p.cells (with_number (pos low) rest) p.input p.ticks;
+        running = two_steps (split.machine (image_of file code body) limits) said (state_at offset p.cells (cells_of (number ∷ numbers)) p.input p.ticks) (state_at (offset + 2) p.cells (low ∷ rest) p.input p.ticks) (state_at (offset + 2 + 1) p.cells (with_number (pos low) rest) p.input p.ticks)
+            (pop_step file code body limits p.cells p.input p.ticks offset (high_cell number) (low ∷ rest) (0x42 ∷ behind) pop stands)
+            (zx_step file code body limits p.cells p.input p.ticks (offset + 2) low rest behind zx second);
+        holds = arrives conv.Char number (pos low) numbers (offset + 2 + 1) fits refl (omega (arith, place_is));
+      }

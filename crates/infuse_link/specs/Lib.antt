@@ -1,0 +1,7 @@
+pub mod Infused
+pub mod RunsAlike
+pub mod NumberInsns
+pub mod Tests
+pub mod Reach
+pub mod Offsets
+pub mod ClassImage

@@ -1,0 +1,261 @@
+//! From a class file of one main to its image.
+
+ghost use Rattle.std.specs.Prelude.{◌≡◌, ℕ, ◌≤◌, ◌⊎◌, true, List, [], ◌∷◌, map, Ok, Err, IfOk, IfErr};
+ghost use Rattle.std.specs.List.{AllByRecursion};
+ghost use Rattle.std.specs.Option.{option_copied};
+ghost use Rattle.dialogue.specs.Limits.{Limits};
+ghost use Rattle.class_file.specs.declared.record.ClassFile.{ClassFile as Record};
+ghost use Rattle.class_file.specs.declared.record.CodeAttr.{CodeAttr as MainCode};
+ghost use Rattle.image_form.specs.SmallForm.{small_class, small_method, small_image, IsSmall};
+ghost use Rattle.image_check.specs.Checked.{IsChecked, IsBuilt};
+ghost use Rattle.jvm_model.specs.declared.refusal.Cause.TheVariants as cause;
+ghost use Rattle.jvm_model.specs.declared.refusal.Refusal.{Refusal as Reason};
+ghost use Rattle.jvm_model.specs.Body.{Body};
+ghost use Rattle.jvm_model.specs.ProgramOf.{program_of};
+ghost use Rattle.jvm_model.specs.NumberForm.{is_of_form, HasNumberForm};
+ghost use Rattle.jvm_model.specs.FrameCells.{greatest_height, frame_cells};
+ghost use Rattle.jvm_model.specs.ImageOf.{object_id, name_of_class, image_of};
+ghost use Rattle.jvm_model.specs.Accepted.{IsAccepted, IsRefused, refusal_of_main};
+ghost use Rattle.infuse_link.specs.declared.stop.Stop.TheVariants.{Memory};
+ghost use Rattle.infuse_link.specs.Infused.{IsInfused, Gives};
+ghost use Rattle.infuse_link.specs.RunsAlike.{RunsAlike};
+ghost use Rattle.infuse_link.specs.NumberInsns.{body_meant};
+ghost use Rattle.infuse_link.specs.Reach.{RisesFrom};
+ghost use Rattle.infuse_link.specs.ClassImage.{IsFile, HasBody, IsClassImage, StopsFor, FormStopsFor, RefusedOrMemory, only_code, refusal_for as refusal_for_of};
+
+use crate::body::{Placed, arrivals_of, ends, heights, locals_below, number_body};
+use crate::emit::emitted;
+use crate::locals::{are_written, slots_of};
+use crate::offsets::offsets_of;
+use crate::reach::are_reached;
+use crate::stop::Stop;
+use class_code::{CodeRefusal, decode};
+use class_file::{ClassFile, CodeAttr, ReadRefusal, read_class};
+use image_form::{ClassEntry, Image, Method, TypeEntry};
+use image_instr::Sig;
+use item_list::Items;
+use jvm_model::{Cause, Refusal};
+use std::alloc::Global;
+
+/// The most cells of a frame.
+const MOST_FRAME_CELLS: u32 = 32_767;
+
+/// The most bytes of a method's machine code.
+const MOST_CODE_BYTES: u32 = 65_535;
+
+/// Turns a set of class files into the image of its main. A set is one file so far. A file that is
+/// refused is named by its place, 0, and so is main, 0; the value of a refusal is a number of cells or
+/// of bytes where the cause says so, and else 0.
+pub fn infuse(alloc: Global, files: &[Vec<u8>]) -> Result<Image, Refusal>
+    // What is answered is the image of the set, and the image of an accepted set is answered.
+    ensures found { IfOk result (IsInfused (map (λ v. v.items) files.now)) }
+    ensures only { (file : Record) (code : MainCode) (body : Body) → IsAccepted (map (λ v. v.items) files.now) file code body → Gives result (Ok (image_of file code body)) }
+
+    // Which refusal it is.
+    ensures refused { IfErr result (λ why. (why.cause ≡ cause.Memory) ⊎ IsRefused (map (λ v. v.items) files.now) why) }
+    ensures refused_only { (why : Reason) → IsRefused (map (λ v. v.items) files.now) why → Gives result (Err why) }
+
+    // The image is small, keeps the rules of the check, and is run.
+    ensures small { IfOk result IsSmall }
+    ensures checked { IfOk result IsChecked }
+    ensures built { IfOk result IsBuilt }
+
+    // Its limited run is that of the class file.
+    ensures runs_alike { IfOk result (λ image. (file : Record) (code : MainCode) (body : Body) → IsAccepted (map (λ v. v.items) files.now) file code body
+        → (limits : Limits) (input : List ℕ) → RunsAlike (program_of file) (frame_cells code.max_locals body) image limits input) }
+{
+    infuse_set(alloc, files)
+}
+
+/// The image of the one file of a set.
+fn infuse_set(alloc: Global, files: &[Vec<u8>]) -> Result<Image, Refusal>
+    ensures found { IfOk result (IsInfused (map (λ v. v.items) files.now)) }
+    ensures refused { IfErr result (RefusedOrMemory (map (λ v. v.items) files.now)) }
+{
+    match files {
+        [bytes] => infuse_file(alloc, bytes.as_slice()),
+        _ => Err(refusal(Cause::Unbuilt, 0)),
+    }
+}
+
+/// A refusal of the first file or of its main.
+fn refusal(cause: Cause, value: u32) -> Refusal
+    ensures { result ≡ refusal_of_main cause value }
+{
+    Refusal {
+        cause,
+        file: 0,
+        member: 0,
+        pc: 0,
+        value,
+    }
+}
+
+/// The refusal of a class file that was read.
+fn refusal_for(why: Stop) -> Refusal
+    ensures { result ≡ refusal_for_of why }
+{
+    match why {
+        Stop::Unbuilt => refusal(Cause::Unbuilt, 0),
+        Stop::FrameTooLarge(cells) => refusal(Cause::FrameTooLarge, cells),
+        Stop::CodeTooLong(bytes) => refusal(Cause::CodeTooLong, bytes),
+        Stop::Memory => refusal(Cause::Memory, 0),
+    }
+}
+
+/// The image of a class file.
+fn infuse_file(alloc: Global, bytes: &[u8]) -> Result<Image, Refusal>
+    ensures found { IfOk result (IsInfused (bytes.now ∷ [])) }
+    ensures refused { IfErr result (RefusedOrMemory (bytes.now ∷ [])) }
+{
+    match read_class(alloc, bytes) {
+        Ok(file) => match infuse_class(alloc, &file) {
+            Ok(image) => Ok(image),
+            Err(why) => Err(refusal_for(why)),
+        },
+        Err(ReadRefusal::NotClass) => Err(refusal(Cause::NotClass, 0)),
+        Err(ReadRefusal::Unbuilt) => Err(refusal(Cause::Unbuilt, 0)),
+        Err(ReadRefusal::Memory) => Err(refusal(Cause::Memory, 0)),
+    }
+}
+
+/// The code of the class's one method.
+fn main_code(file: &ClassFile) -> Option<&CodeAttr>
+    ensures { option_copied result ≡ only_code file.now.methods }
+{
+    match file.methods.as_slice() {
+        [main] => main.code.as_ref(),
+        _ => None,
+    }
+}
+
+/// The image of a class file of one main.
+fn infuse_class(alloc: Global, file: &ClassFile) -> Result<Image, Stop>
+    requires { IsFile file.now }
+    ensures found { IfOk result (IsClassImage file.now) }
+    ensures refused { IfErr result (StopsFor file.now) }
+{
+    let Some(code) = main_code(file) else {
+        return Err(Stop::Unbuilt);
+    };
+    match decode(alloc, code.code.as_slice()) {
+        Ok(list) => match number_body(alloc, &file.pool, list.as_slice()) {
+            Ok(body) => infuse_body(alloc, file, code, body.as_slice()),
+            Err(why) => Err(why),
+        },
+        Err(CodeRefusal::Memory) => Err(Stop::Memory),
+        Err(CodeRefusal::Unsupported { .. } | CodeRefusal::BadCode { .. }) => Err(Stop::Unbuilt),
+    }
+}
+
+/// The greatest height of the operand stack of a body that has the number form.
+fn greatest_height(alloc: Global, code: &CodeAttr, body: &[Placed<'_>]) -> Result<u32, Stop>
+    requires of_form { AllByRecursion (λ x. is_of_form x.1 ≡ true) (body_meant body.now) }
+    requires rise { RisesFrom 0 (body_meant body.now) }
+    ensures form { IfOk result (λ _. HasNumberForm code.now (body_meant body.now)) }
+    ensures value { IfOk result (λ greatest. greatest ≡ greatest_height 0 (body_meant body.now)) }
+    ensures most { IfOk result (λ greatest. greatest ≤ 65535) }
+    ensures refused { IfErr result (FormStopsFor code.now (body_meant body.now)) }
+{
+    if !ends(body) {
+        return Err(Stop::Unbuilt);
+    }
+    if !locals_below(code.max_locals, body) {
+        return Err(Stop::Unbuilt);
+    }
+    let marks = arrivals_of(alloc, body)?;
+    let arrivals = marks.as_slice();
+    let Some(greatest) = heights(code.max_stack, arrivals, body) else {
+        return Err(Stop::Unbuilt);
+    };
+    if !are_written(alloc, arrivals, body)? {
+        return Err(Stop::Unbuilt);
+    }
+    if !are_reached(alloc, body)? {
+        return Err(Stop::Unbuilt);
+    }
+    Ok(greatest)
+}
+
+/// The image of a class file with this body of main.
+fn infuse_body(
+    alloc: Global,
+    file: &ClassFile,
+    code: &CodeAttr,
+    body: &[Placed<'_>],
+) -> Result<Image, Stop>
+    requires file { IsFile file.now }
+    requires main { HasBody file.now code.now (body_meant body.now) }
+    requires of_form { AllByRecursion (λ x. is_of_form x.1 ≡ true) (body_meant body.now) }
+    requires rise { RisesFrom 0 (body_meant body.now) }
+    ensures found { IfOk result (IsClassImage file.now) }
+    ensures refused { IfErr result (StopsFor file.now) }
+{
+    let greatest = greatest_height(alloc, code, body)?;
+    let slots = slots_of(alloc, code.max_locals, body)?;
+    let cells = slots.cells() + 2 * greatest;
+    if MOST_FRAME_CELLS < 4 + cells {
+        return Err(Stop::FrameTooLarge(4 + cells));
+    }
+    let offsets = offsets_of(alloc, &slots, body)?;
+    if MOST_CODE_BYTES < offsets.bytes() {
+        return Err(Stop::CodeTooLong(offsets.bytes()));
+    }
+    let machine_code = emitted(alloc, &slots, &offsets, body)?;
+    image(
+        alloc,
+        file,
+        slots.cells() as u16,
+        cells as u16,
+        machine_code,
+    )
+}
+
+/// The image of a class below Object and its main.
+fn image(
+    alloc: Global,
+    file: &ClassFile,
+    cell_locals: u16,
+    body: u16,
+    code: Vec<u8>,
+) -> Result<Image, Stop>
+    ensures value { IfOk result (λ image. image ≡ small_image (small_class object_id (name_of_class file.now)) (small_method 0 cell_locals body code.items)) }
+    ensures memory { IfErr result (λ why. why ≡ Memory) }
+{
+    let name = match file.pool.class_name(file.this_class) {
+        Some(name) => Vec::from_slice(alloc, name)?,
+        None => Vec::new(alloc),
+    };
+    let mut types = Vec::new(alloc);
+    types.push(TypeEntry::Class(ClassEntry {
+        parent: 0,
+        flags: 0,
+        refs: 0,
+        nums: 0,
+        interfaces: Items::empty(alloc),
+        rows: Items::empty(alloc),
+        name: Items::from_vec(name),
+    }))?;
+    let mut methods = Vec::new(alloc);
+    methods.push(Method {
+        sig: Sig {
+            refs: 0,
+            cells: 0,
+            result: 0,
+        },
+        ref_locals: 0,
+        cell_locals,
+        body,
+        code: Items::from_vec(code),
+        handlers: Items::empty(alloc),
+    })?;
+    Ok(Image {
+        version: 1,
+        types: Items::from_vec(types),
+        selectors: Items::empty(alloc),
+        methods: Items::from_vec(methods),
+        static_refs: 0,
+        static_cells: Items::empty(alloc),
+        main: 32,
+    })
+}

@@ -1,0 +1,19 @@
+//! The infuser: `infuse` turns a set of class files into an image, or says why the set is refused. The
+//! image is that of the set (`jvm_model`), it is checked, and its limited run is that of the class files
+//! (specs/RunsAlike.antt). This crate stands on `jvm_model`, `class_code`, `image_check` and
+//! `mote_model`.
+#![tactic(auto)]
+
+mod body;
+mod emit;
+mod infusing;
+mod locals;
+mod marks;
+mod number_insn;
+mod offsets;
+mod reach;
+mod stop;
+#[cfg(test)]
+mod tests;
+
+pub use infusing::infuse;
