@@ -1,215 +1,163 @@
 -- The causes of the statuses, from the reply.
-use Rattle.std.proofs.Common.{◌≡◌, ℕ, ◌+◌, ◌<◌, ◌≤◌, List, [], ◌∷◌, ◌++◌, ◌⊎◌, ◌↔◌, take, drop, Option, Some, None, Result, Ok, Err, inl, inr, refl, sym, ap, subst, ◌∙◌, append_assoc, take-append-drop, arith}
-use Rattle.std.specs.Prelude.{IfSome, MatchResult}
-use Rattle.std.specs.FinMap.{get}
-use Rattle.std.proofs.lemmas.List.{take-take, append-nil}
-use Rattle.std.proofs.lemmas.Bool.{cases_lt}
-use Rattle.std.specs.Prelude.{slice_get}
-use Rattle.dialogue.specs.Dialogue.{Item, Get, Put, Note, puts, notes}
+use Rattle.std.proofs.Common.{◌≡◌, ◌≢◌, ℕ, ◌≤◌, List, [], ◌∷◌, ◌++◌, ◌⊎◌, ◌↔◌, Option, Some, None, inl, inr, refl, sym, ap, subst, ◌∙◌}
+use Rattle.std.specs.Prelude.{IfSome, slice_get, option_map}
+use Rattle.std.specs.FinMap.{get, insert}
+use Rattle.dialogue.specs.Dialogue.{Item, Get, Put, Note, puts, notes, noting, puts-append, notes-append, puts-noting, notes-noting}
+use Rattle.std.proofs.lemmas.List.{append-nil}
 use Rattle.class_file.specs.declared.record.ClassFile.{ClassFile}
-use Rattle.class_file.specs.declared.refusal.ReadRefusal.{ReadRefusal}
-use Rattle.class_file.specs.Reading.{class_of}
+use Rattle.class_file.specs.declared.record.CodeAttr.{CodeAttr}
+use Rattle.image_form.specs.declared.record.Image.{Image}
+use Rattle.image_form.specs.Format.{spelling}
 use Rattle.jvm_model.specs.declared.refusal.Refusal.{Refusal}
-use Rattle.jvm_model.specs.ProgramOf.{program_of}
-use Rattle.jvm_model.specs.Verdict.{accepted, verdict, read_set, refusal_in}
+use Rattle.jvm_model.specs.Body.{Body}
+use Rattle.jvm_model.specs.ImageOf.{image_of}
+use Rattle.jvm_model.specs.Accepted as verdict
+use Rattle.jvm_model.specs.Accepted.{IsAccepted}
+use Rattle.jvm_model.proofs.VerdictLaws.{accepted_or_refused, one_acceptance, one_refusal}
 use Rattle.host_face.specs.Faults.{Rose}
 use Rattle.host_face.specs.Shelf.{Files}
 use Rattle.host_face.specs.Console.{FillsRoom}
 use Rattle.host_face.specs.Talk.{with_bytes, WasFull}
+use Rattle.mote_top.specs.declared.status.ImageRefusal.{ImageRefusal}
 use Rattle.mote_top.specs.declared.status.Status.{Status}
-use Rattle.mote_top.specs.declared.status.Status.TheVariants.{Done, Words, Refused, ConsoleFault, ShelfFault, Memory}
-use Rattle.mote_top.specs.declared.words.Command.TheVariants.{Go}
-use Rattle.mote_top.specs.Words.{IsName, go_of, IsCommand, Begins, FaultsAt}
-use Rattle.mote_top.specs.Reply.{Reply, quiet, RepliesOn, RunsTo, IsVerdict, MayReply, Replied, Untouched, Answers, all_said}
-use Rattle.mote_top.specs.Headline.{IsGiven, IsAnswer, IsUnless, ShowsRun, LoadFailed}
+use Rattle.mote_top.specs.declared.status.Status.TheVariants.{Done, Uncaught, Words, Refused, Infusion, Spent, HeapWanted, StackWanted, ConsoleFault, ShelfFault, Misfit, Memory}
+use Rattle.mote_top.specs.declared.words.Command.TheVariants.{Infuse, Run, Go}
+use Rattle.mote_top.specs.Words.{IsName, infuse_of, run_of, go_of, class_place, ticks_of, FaultsAt}
+use Rattle.mote_top.specs.Status.{note_of}
+use Rattle.mote_top.specs.Reply.{Reply, quiet, Runs, RunsInfusion, RepliesOn, InfusionReplies, IsNoInfusion, IsRefusedReply, IsRunEnd, IsVerdict, IsRunVerdict, IsInfuseVerdict, GoReplies, RunReplies, InfuseReplies, WordsReply, LoadReplies, StoreReplies, Stores, StoresNothing, Loads, Shelved, MayReply, OnBytes, Replied, Failed, Untouched, Answers, all_said, limits_of}
+use Rattle.mote_top.specs.Headline.{GoesOn, RunsOn, InfusesTo, IsAnswer, IsUnless, ShowsAll, ShowsRun, ShowsImage, StoresImage, ShelfFailed}
+use Rattle.mote_top.proofs.Commands.{one_place, go_command, run_command, infuse_command, go_is_no_run, go_is_no_infuse, run_is_no_infuse, one_infuse, one_go, one_run}
+
+-- ---- statuses apart
+
+words_is_shelf : (place word : ℕ) → Words place ≡ ShelfFault word → ⊥
+words_is_shelf place word e = cc
+
+same_place : (a b : ℕ) → Words a ≡ Words b → b ≡ a
+same_place a b e = cc
+
+same_word : (a b : ℕ) → ShelfFault a ≡ ShelfFault b → b ≡ a
+same_word a b e = cc
+
+pub same_refusal : (a b : Refusal) → Refused a ≡ Refused b → a ≡ b
+same_refusal a b e = cc
+
+pub same_image_refusal : (a b : ImageRefusal) → Infusion a ≡ Infusion b → a ≡ b
+same_image_refusal a b e = cc
 
 -- ---- words
 
-names_one : (a b : List ℕ) → go_of a ≡ go_of b → a ≡ b
-names_one a b e = cc
+pub status_is : {reply other : Reply} → reply ≡ other → reply.status ≡ other.status
+status_is e = ap (λ (r : Reply). r.status) e
 
-go_is_command : (words : List (List ℕ)) (name : List ℕ) → words ≡ go_of name → IsName name → IsCommand words (Go 1)
-go_is_command words name is is_name = (name, is, is_name, refl)
+-- a reply of words at fault is theirs
+pub may_words : (words : List (List ℕ)) (before after : Shelved) (left : Option (List ℕ)) (reply : Reply) (place : ℕ) → reply.status ≡ Words place → MayReply words before after left reply → FaultsAt words place
+may_words words before after left reply place is (inl (w, same)) = subst (FaultsAt words) (same_place place w.place (sym is ∙ status_is w.is)) w.faults
+may_words words before after left reply place is (inr (inl (inl go, same))) = absurd (subst IsVerdict is go.status)
+may_words words before after left reply place is (inr (inl (inr run, same))) = absurd (subst IsRunVerdict is run.status)
+may_words words before after left reply place is (inr (inr (inl infuse))) = absurd (subst IsInfuseVerdict is infuse.status)
+may_words words before after left reply place is (inr (inr (inr (inl load)))) = absurd (words_is_shelf place load.place (sym is ∙ status_is load.is))
+may_words words before after left reply place is (inr (inr (inr (inr store)))) = absurd (words_is_shelf place 1 (sym is ∙ status_is store.is))
 
-begins_front : (words : List (List ℕ)) (p q : ℕ) → p ≤ q → Begins (take q words) → Begins (take p words)
-begins_front words p q le b =
-    let rest = drop p (take q words) in
-    let parts : take q words ≡ take p words ++ rest = sym (take-append-drop p (take q words)) ∙ ap (λ (front : List (List ℕ)). front ++ rest) (take-take p q words le) in
-    record {
-      more = rest ++ b.more;
-      command = b.command;
-      whole = subst (λ (all : List (List ℕ)). IsCommand all b.command) (ap (λ (front : List (List ℕ)). front ++ b.more) parts ∙ append_assoc (take p words) rest b.more) b.whole;
-    }
-
-before_is_false : (words : List (List ℕ)) (p q : ℕ) → FaultsAt words p → FaultsAt words q → p < q → ⊥
-before_is_false words p q a b lt = a.stops (omega (arith, b.within)) (begins_front words (p + 1) q (omega arith) b.begins)
-
--- there is one place
-pub one_place : (words : List (List ℕ)) (p q : ℕ) → FaultsAt words p → FaultsAt words q → p ≡ q
-one_place words p q a b =
-    elim (cases_lt p q) [
-      | inl lt ↦ absurd (before_is_false words p q a b lt)
-      | inr le ↦ elim (cases_lt q p) [ inl gt ↦ absurd (before_is_false words q p b a gt) | inr ge ↦ omega arith ]
-    ]
-
--- ---- replies
-
-may_words : (words : List (List ℕ)) (kept : Option Files) (before now : List ℕ → ℕ) (left : Option (List ℕ)) (reply : Reply) (place : ℕ)
-    → Words place ≡ reply.status → MayReply words kept before now left reply → FaultsAt words place
-may_words words kept before now left reply place is (inl (inl w)) = subst (FaultsAt words) (same_words place w.place (is ∙ ap (λ (r : Reply). r.status) w.is)) w.faults
-  where
-    same_words : (a b : ℕ) → Words a ≡ Words b → b ≡ a
-    same_words a b e = cc
-may_words words kept before now left reply place is (inl (inr g)) = absurd (subst IsVerdict (sym is) g.status)
-may_words words kept before now left reply place is (inr s) = absurd (apart (is ∙ ap (λ (r : Reply). r.status) s.is))
-  where
-    apart : Words place ≡ ShelfFault 1 → ⊥
-    apart e = cc
-
-may_shelf : (words : List (List ℕ)) (kept : Option Files) (before now : List ℕ → ℕ) (left : Option (List ℕ)) (reply : Reply) (word : ℕ)
-    → ShelfFault word ≡ reply.status → MayReply words kept before now left reply → LoadFailed words before now word
-may_shelf words kept before now left reply word is (inl (inl w)) = absurd (apart (is ∙ ap (λ (r : Reply). r.status) w.is))
-  where
-    apart : ShelfFault word ≡ Words w.place → ⊥
-    apart e = cc
-may_shelf words kept before now left reply word is (inl (inr g)) = absurd (subst IsVerdict (sym is) g.status)
-may_shelf words kept before now left reply word is (inr s) =
-    record {
-      name = s.name;
-      at = ap (λ (all : List (List ℕ)). slice_get all word) s.command ∙ ap (slice_get (go_of s.name)) (same_word word (is ∙ ap (λ (r : Reply). r.status) s.is));
-      rose = s.rose;
-    }
-  where
-    same_word : (a : ℕ) → ShelfFault a ≡ ShelfFault 1 → a ≡ 1
-    same_word a e = cc
-
--- where all is given, the reply is on the bytes that are kept
-given_on : (words : List (List ℕ)) (kept : Option Files) (before now : List ℕ → ℕ) (left : Option (List ℕ)) (bytes input : List ℕ) → IsGiven words kept left bytes input
-    → (reply : Reply) → IsAnswer reply.status → MayReply words kept before now left reply → RepliesOn (bytes ∷ []) input reply
-given_on words kept before now left bytes input given reply answer (inl (inl w)) = absurd (w.faults.no_command (Go 1) (go_is_command words given.name given.command given.is_name))
-given_on words kept before now left bytes input given reply answer (inr s) = absurd (subst IsAnswer (ap (λ (r : Reply). r.status) s.is) answer)
-given_on words kept before now left bytes input given reply answer (inl (inr g)) =
-    let same_name : g.name ≡ given.name = names_one g.name given.name (sym g.command ∙ given.command) in
-    let told : IfSome (Some given.files) (λ files. IfSome left (λ input. (found : List ℕ) × (get files g.name ≡ Some found) × RepliesOn (found ∷ []) input reply)) = subst (λ (k : Option Files). IfSome k (λ files. IfSome left (λ input. (found : List ℕ) × (get files g.name ≡ Some found) × RepliesOn (found ∷ []) input reply))) given.tells_kept g.told in
-    let here : IfSome (Some input) (λ input. (found : List ℕ) × (get given.files g.name ≡ Some found) × RepliesOn (found ∷ []) input reply) = subst (λ (l : Option (List ℕ)). IfSome l (λ input. (found : List ℕ) × (get given.files g.name ≡ Some found) × RepliesOn (found ∷ []) input reply)) given.tells_left told in
-    let same_bytes : here.0 ≡ bytes = same_some here.0 bytes (sym here.1 ∙ ap (get given.files) same_name ∙ given.found) in
-    subst (λ (b : List ℕ). RepliesOn (b ∷ []) input reply) same_bytes here.2
-  where
-    same_some : (a b : List ℕ) → Some a ≡ Some b → a ≡ b
-    same_some a b e = cc
+no_load : (words : List (List ℕ)) (place : ℕ) → FaultsAt words place → (name : List ℕ) (word : ℕ) → Loads words name word → ⊥
+no_load words place faults name word (inl (option, are, fits, is_name, there)) = faults.no_command (Go (ticks_of option) (class_place option)) (go_command words option name are is_name fits)
+no_load words place faults name word (inr (inl (option, are, fits, is_name, there))) = faults.no_command (Run 1 (ticks_of option)) (run_command words name option are is_name fits)
+no_load words place faults name word (inr (inr (out, are, is_out, is_name, there))) = faults.no_command (Infuse 1 2) (infuse_command words out name are is_out is_name)
 
 -- where the words are no command, the reply says at which place
-fault_reply : (words : List (List ℕ)) (kept : Option Files) (before now : List ℕ → ℕ) (left : Option (List ℕ)) (place : ℕ) → FaultsAt words place
-    → (reply : Reply) → MayReply words kept before now left reply → reply.status ≡ Words place
-fault_reply words kept before now left place faults reply (inl (inl w)) = ap (λ (r : Reply). r.status) w.is ∙ ap (λ (p : ℕ). Words p) (one_place words w.place place w.faults faults)
-fault_reply words kept before now left place faults reply (inl (inr g)) = absurd (faults.no_command (Go 1) (go_is_command words g.name g.command g.is_name))
-fault_reply words kept before now left place faults reply (inr s) = absurd (faults.no_command (Go 1) (go_is_command words s.name s.command s.is_name))
+pub fault_reply : (words : List (List ℕ)) (before after : Shelved) (left : Option (List ℕ)) (place : ℕ) → FaultsAt words place → (reply : Reply) → MayReply words before after left reply → reply.status ≡ Words place
+fault_reply words before after left place faults reply (inl (w, same)) = status_is w.is ∙ ap (λ (p : ℕ). Words p) (one_place words w.place place w.faults faults)
+fault_reply words before after left place faults reply (inr (inl (inl go, same))) = absurd (faults.no_command (Go (ticks_of go.option) (class_place go.option)) (go_command words go.option go.name go.command go.is_name go.fits))
+fault_reply words before after left place faults reply (inr (inl (inr run, same))) = absurd (faults.no_command (Run 1 (ticks_of run.option)) (run_command words run.name run.option run.command run.is_name run.fits))
+fault_reply words before after left place faults reply (inr (inr (inl infuse))) = absurd (faults.no_command (Infuse 1 2) (infuse_command words infuse.out infuse.class infuse.command infuse.is_out infuse.is_class))
+fault_reply words before after left place faults reply (inr (inr (inr (inl load)))) = absurd (no_load words place faults load.name load.place load.loads)
+fault_reply words before after left place faults reply (inr (inr (inr (inr store)))) = absurd (faults.no_command (Infuse 1 2) (infuse_command words store.out store.class store.command store.is_out store.is_class))
 
--- a reply on an accepted class runs it, a reply on another refuses it
-on_class : (bytes input : List ℕ) (file : ClassFile) (reply : Reply) → class_of bytes ≡ Ok file → RepliesOn (bytes ∷ []) input reply → RunsTo (program_of file) input reply
-on_class bytes input file reply read on =
-    subst (λ (r : Result ClassFile ReadRefusal). MatchResult (read_set r) (λ f. RunsTo (program_of f) input reply) (λ refusal. reply ≡ quiet (Refused refusal) (Some input))) read on
+-- ---- faults of the shelf
 
-none_is_some : {refusal : Refusal} → None ≡ Some refusal → ⊥
-none_is_some e = cc
+-- the name that is loaded stands at its place
+loads_there : (words : List (List ℕ)) (name : List ℕ) (place : ℕ) → Loads words name place → slice_get words place ≡ Some name
+loads_there words name place (inl (None, are, fits, is_name, there)) = rw (are, there) refl
+loads_there words name place (inl (Some ticks, are, fits, is_name, there)) = rw (are, there) refl
+loads_there words name place (inr (inl (option, are, fits, is_name, there))) = rw (are, there) refl
+loads_there words name place (inr (inr (out, are, is_out, is_name, there))) = rw (are, there) refl
 
-done_is_refused : {refusal : Refusal} → Done ≡ Refused refusal → ⊥
-done_is_refused e = cc
+pub may_shelf : (words : List (List ℕ)) (before after : Shelved) (left : Option (List ℕ)) (reply : Reply) (word : ℕ) → reply.status ≡ ShelfFault word → MayReply words before after left reply → ShelfFailed words before after word
+may_shelf words before after left reply word is (inl (w, same)) = absurd (words_is_shelf w.place word (sym (status_is w.is) ∙ is))
+may_shelf words before after left reply word is (inr (inl (inl go, same))) = absurd (subst IsVerdict is go.status)
+may_shelf words before after left reply word is (inr (inl (inr run, same))) = absurd (subst IsRunVerdict is run.status)
+may_shelf words before after left reply word is (inr (inr (inl infuse))) = absurd (subst IsInfuseVerdict is infuse.status)
+may_shelf words before after left reply word is (inr (inr (inr (inl load)))) =
+    let same : load.place ≡ word = same_word word load.place (sym is ∙ status_is load.is) in
+    (load.name, subst (λ (p : ℕ). slice_get words p ≡ Some load.name) same (loads_there words load.name load.place load.loads), inl load.rose)
+may_shelf words before after left reply word is (inr (inr (inr (inr store)))) =
+    let same : 1 ≡ word = same_word word 1 (sym is ∙ status_is store.is) in
+    (store.out, subst (λ (p : ℕ). slice_get words p ≡ Some store.out) same (rw store.command refl), inr (sym same, store.class, store.command, store.rose))
 
-same_refusal : (a b : Refusal) → Refused a ≡ Refused b → a ≡ b
-same_refusal a b e = cc
+-- ---- replies to what is given
 
-same_some_refusal : (a b : Refusal) → Some a ≡ Some b → a ≡ b
-same_some_refusal a b e = cc
+same_bytes : (a b : List ℕ) → Some a ≡ Some b → a ≡ b
+same_bytes a b e = cc
 
-refused_by : (input : List ℕ) (reply : Reply) (refusal : Refusal) (r : Result ClassFile Refusal) → MatchResult r (λ file. RunsTo (program_of file) input reply) (λ why. reply ≡ quiet (Refused why) (Some input))
-    → (reply.status ≡ Refused refusal) ↔ (refusal_in r ≡ Some refusal)
-refused_by input reply refusal (Ok file) runs = (λ is. absurd (done_is_refused (sym (ap (λ (r : Reply). r.status) runs.is) ∙ is)), λ e. absurd (none_is_some e))
-refused_by input reply refusal (Err why) is =
-    let status : reply.status ≡ Refused why = ap (λ (r : Reply). r.status) is in
-    (λ e. ap (λ (r : Refusal). Some r) (same_refusal why refusal (sym status ∙ e)), λ e. status ∙ ap (λ (r : Refusal). Refused r) (same_some_refusal why refusal e))
+-- what is said of the bytes at a name holds of those that are kept there
+on_kept : (files : Files) (kept : Option Files) (left : Option (List ℕ)) (name bytes input : List ℕ) (P : List ℕ → List ℕ → Type 0) → kept ≡ Some files → left ≡ Some input → get files name ≡ Some bytes → OnBytes kept left name P → P bytes input
+on_kept files kept left name bytes input P tells_kept tells_left found on =
+    let told : OnBytes (Some files) left name P = subst (λ (k : Option Files). OnBytes k left name P) tells_kept on in
+    let here : OnBytes (Some files) (Some input) name P = subst (λ (l : Option (List ℕ)). OnBytes (Some files) l name P) tells_left told in
+    subst (λ (b : List ℕ). P b input) (same_bytes here.0 bytes (sym here.1 ∙ found)) here.2
 
--- ---- the clauses of a call
+no_answer : (status : Status) (word : ℕ) → status ≡ ShelfFault word → IsAnswer status → ⊥
+no_answer status word is answer = subst IsAnswer is answer
 
-module _ {C : Type 0} (left shown noted : C → Option (List ℕ)) (faults : C → ℕ) (room : C → Option ℕ)
-    (words : List (List ℕ)) (kept : Option Files) (before now : List ℕ → ℕ) (old new : C) where
-  abbrev pub Call : Status → Type 0
-  Call status = Answers left shown noted faults room all_said (MayReply words kept before now (left old)) old new status
+not_go : (words : List (List ℕ)) (option : Option ℕ) (name : List ℕ) → words ≡ go_of option name → (other : List ℕ) (second : Option ℕ) → words ≡ run_of other second → ⊥
+not_go words option name a other second b = go_is_no_run option name other second (sym a ∙ b)
 
-  abbrev pub CallReplied : Status → Type 0
-  CallReplied status = Replied left shown noted faults room all_said (MayReply words kept before now (left old)) old new status
+-- a command on files and input that are told
+pub go_on : (words : List (List ℕ)) (before after : Shelved) (left : Option (List ℕ)) (ticks : ℕ) (bytes input : List ℕ) → GoesOn words before.kept left ticks bytes input → (reply : Reply) → IsAnswer reply.status → MayReply words before after left reply
+    → RepliesOn (bytes ∷ []) (limits_of ticks) input reply
+go_on words before after left ticks bytes input given reply answer (inl (w, same)) = absurd (w.faults.no_command (Go (ticks_of given.option) (class_place given.option)) (go_command words given.option given.name given.command given.is_name given.fits))
+go_on words before after left ticks bytes input given reply answer (inr (inl (inl go, same))) =
+    let one = one_go go.option given.option go.name given.name go.fits given.fits (sym go.command ∙ given.command) in
+    let found : get given.files go.name ≡ Some bytes = ap (get given.files) one.0 ∙ given.found in
+    let on = on_kept given.files before.kept left go.name bytes input (λ found input. RepliesOn (found ∷ []) (limits_of (ticks_of go.option)) input reply) given.tells_kept given.tells_left found go.told in
+    subst (λ (t : ℕ). RepliesOn (bytes ∷ []) (limits_of t) input reply) (one.1 ∙ sym given.ticks_are) on
+go_on words before after left ticks bytes input given reply answer (inr (inl (inr run, same))) = absurd (go_is_no_run given.option given.name run.name run.option (sym given.command ∙ run.command))
+go_on words before after left ticks bytes input given reply answer (inr (inr (inl infuse))) = absurd (go_is_no_infuse given.option given.name infuse.out infuse.class (sym given.command ∙ infuse.command))
+go_on words before after left ticks bytes input given reply answer (inr (inr (inr (inl load)))) = absurd (no_answer reply.status load.place (status_is load.is) answer)
+go_on words before after left ticks bytes input given reply answer (inr (inr (inr (inr store)))) = absurd (no_answer reply.status 1 (status_is store.is) answer)
 
-  -- an answer is a reply
-  pub replied_of : (status : Status) → IsAnswer status → Call status → CallReplied status
-  replied_of Done answer a = a
-  replied_of (Words place) answer a = a
-  replied_of (Refused refusal) answer a = a
-  replied_of ConsoleFault answer a = absurd answer
-  replied_of (ShelfFault word) answer a = absurd answer
-  replied_of Memory answer a = absurd answer
+pub run_on : (words : List (List ℕ)) (before after : Shelved) (left : Option (List ℕ)) (ticks : ℕ) (bytes input : List ℕ) → RunsOn words before.kept left ticks bytes input → (reply : Reply) → IsAnswer reply.status → MayReply words before after left reply
+    → InfusionReplies bytes (limits_of ticks) input reply
+run_on words before after left ticks bytes input given reply answer (inl (w, same)) = absurd (w.faults.no_command (Run 1 (ticks_of given.option)) (run_command words given.name given.option given.command given.is_name given.fits))
+run_on words before after left ticks bytes input given reply answer (inr (inl (inl go, same))) = absurd (go_is_no_run go.option go.name given.name given.option (sym go.command ∙ given.command))
+run_on words before after left ticks bytes input given reply answer (inr (inl (inr run, same))) =
+    let one = one_run run.option given.option run.name given.name run.fits given.fits (sym run.command ∙ given.command) in
+    let found : get given.files run.name ≡ Some bytes = ap (get given.files) one.0 ∙ given.found in
+    let on = on_kept given.files before.kept left run.name bytes input (λ found input. InfusionReplies found (limits_of (ticks_of run.option)) input reply) given.tells_kept given.tells_left found run.told in
+    subst (λ (t : ℕ). InfusionReplies bytes (limits_of t) input reply) (one.1 ∙ sym given.ticks_are) on
+run_on words before after left ticks bytes input given reply answer (inr (inr (inl infuse))) = absurd (run_is_no_infuse given.name given.option infuse.out infuse.class (sym given.command ∙ infuse.command))
+run_on words before after left ticks bytes input given reply answer (inr (inr (inr (inl load)))) = absurd (no_answer reply.status load.place (status_is load.is) answer)
+run_on words before after left ticks bytes input given reply answer (inr (inr (inr (inr store)))) = absurd (no_answer reply.status 1 (status_is store.is) answer)
 
-  pub words_cause : (status : Status) → Call status → (place : ℕ) → status ≡ Words place → FaultsAt words place
-  words_cause status a place is =
-      let r : CallReplied (Words place) = subst Call is a in
-      may_words words kept before now (left old) r.reply place r.same r.may
+-- what infuse answers and leaves, of bytes that are kept at the class's name
+abbrev pub InfusedOn : (files : Files) (out bytes : List ℕ) (now : Option Files) (left : Option (List ℕ)) → Reply → Type 0
+InfusedOn files out bytes now left reply = Stores (bytes ∷ []) out (Some files) now left reply ⊎ StoresNothing (bytes ∷ []) (Some files) now left reply
 
-  pub words_only : (status : Status) → Call status → (place : ℕ) → FaultsAt words place → IsUnless (Words place) status
-  words_only Memory a place fault = tt
-  words_only ConsoleFault a place fault = tt
-  words_only Done a place fault = a.same ∙ fault_reply words kept before now (left old) place fault a.reply a.may
-  words_only (Words other) a place fault = a.same ∙ fault_reply words kept before now (left old) place fault a.reply a.may
-  words_only (Refused refusal) a place fault = a.same ∙ fault_reply words kept before now (left old) place fault a.reply a.may
-  words_only (ShelfFault word) a place fault = a.same ∙ fault_reply words kept before now (left old) place fault a.reply a.may
+infuse_told : (files : Files) (class out bytes : List ℕ) (kept now : Option Files) (left : Option (List ℕ)) (reply : Reply) → kept ≡ Some files → get files class ≡ Some bytes
+    → IfSome kept (λ files. (found : List ℕ) × (get files class ≡ Some found) × (Stores (found ∷ []) out kept now left reply ⊎ StoresNothing (found ∷ []) kept now left reply)) → InfusedOn files out bytes now left reply
+infuse_told files class out bytes kept now left reply tells found told =
+    let here : IfSome (Some files) (λ files. (found : List ℕ) × (get files class ≡ Some found) × (Stores (found ∷ []) out (Some files) now left reply ⊎ StoresNothing (found ∷ []) (Some files) now left reply)) =
+    subst (λ (k : Option Files). IfSome k (λ files. (found : List ℕ) × (get files class ≡ Some found) × (Stores (found ∷ []) out k now left reply ⊎ StoresNothing (found ∷ []) k now left reply))) tells told in
+    subst (λ (b : List ℕ). InfusedOn files out b now left reply) (same_bytes here.0 bytes (sym here.1 ∙ found)) here.2
 
-  pub shelf_cause : (status : Status) → Call status → (word : ℕ) → status ≡ ShelfFault word → LoadFailed words before now word
-  shelf_cause status a word is =
-      let r : CallReplied (ShelfFault word) = subst Call is a in
-      may_shelf words kept before now (left old) r.reply word r.same r.may
-
-  pub console_cause : (status : Status) → Call status → status ≡ ConsoleFault → Rose (faults old) (faults new)
-  console_cause status a is = let f : Call ConsoleFault = subst Call is a in f.broke.rose
-
-  room_of : (item : Item) (told : Option ℕ) (output others : Option (List ℕ)) → WasFull item told output others → FillsRoom told output ⊎ FillsRoom told others
-  room_of Get None output others full = inl tt
-  room_of Get (Some n) output others full = absurd (cc)
-  room_of (Put byte) told output others full = inl full
-  room_of (Note byte) told output others full = inr full
-
-  pub room_cause : (status : Status) → Call status → status ≡ ConsoleFault → FillsRoom (room old) (shown new) ⊎ FillsRoom (room old) (noted new)
-  room_cause status a is = let f : Call ConsoleFault = subst Call is a in room_of f.broke.failed (room old) (shown new) (noted new) f.broke.full
-
-  pub memory_leaves : (status : Status) → Call status → status ≡ Memory → Untouched left shown noted faults room old new
-  memory_leaves status a is = subst Call is a
-
-  pub console_stays : (status : Status) → Call status → (faults old ≤ faults new) × (room new ≡ room old)
-  console_stays Memory a = (a.counted, a.same_room)
-  console_stays ConsoleFault a = (a.broke.talked.counted, a.broke.talked.same_room)
-  console_stays Done a = (a.talked.counted, a.talked.same_room)
-  console_stays (Words place) a = (a.talked.counted, a.talked.same_room)
-  console_stays (Refused refusal) a = (a.talked.counted, a.talked.same_room)
-  console_stays (ShelfFault word) a = (a.talked.counted, a.talked.same_room)
-
-  -- the reply to what is given
-  reply_on : (bytes input : List ℕ) → IsGiven words kept (left old) bytes input → (status : Status) → IsAnswer status → (r : CallReplied status) → RepliesOn (bytes ∷ []) input r.reply
-  reply_on bytes input given status answer r = given_on words kept before now (left old) bytes input given r.reply (subst IsAnswer r.same answer) r.may
-
-  pub refused_cause : (status : Status) → Call status → (bytes input : List ℕ) (refusal : Refusal) → IsGiven words kept (left old) bytes input → IsAnswer status → (status ≡ Refused refusal) ↔ (verdict (bytes ∷ []) ≡ Some refusal)
-  refused_cause status a bytes input refusal given answer =
-      let r = replied_of status answer a in
-      let both = refused_by input r.reply refusal (accepted (bytes ∷ [])) (reply_on bytes input given status answer r) in
-      (λ is. both.0 (sym r.same ∙ is), λ e. r.same ∙ both.1 e)
-
-  pub shows_run : (status : Status) → Call status → (bytes input : List ℕ) (file : ClassFile) → class_of bytes ≡ Ok file → IsGiven words kept (left old) bytes input → IsAnswer status → ShowsRun left shown noted old new (program_of file) input status
-  shows_run status a bytes input file read given answer =
-      let r = replied_of status answer a in
-      let runs = on_class bytes input file r.reply read (reply_on bytes input given status answer r) in
-      let items : all_said r.reply ≡ runs.outcome.dialogue = ap all_said runs.is ∙ append-nil runs.outcome.dialogue in
-      record {
-        outcome = runs.outcome;
-        ends = runs.ends;
-        ended = runs.done;
-        done = r.same ∙ ap (λ (reply : Reply). reply.status) runs.is;
-        puts_shown = r.talked.put ∙ ap (λ (said : List Item). with_bytes (puts said) (shown old)) items;
-        notes_noted = r.talked.note ∙ ap (λ (said : List Item). with_bytes (notes said) (noted old)) items;
-        input_left = r.same_left ∙ ap (λ (reply : Reply). reply.left) runs.is;
-      }
+pub infuse_on : (words : List (List ℕ)) (before after : Shelved) (left : Option (List ℕ)) (files : Files) (out bytes : List ℕ) → InfusesTo words before.kept files out bytes → (reply : Reply) → IsAnswer reply.status → MayReply words before after left reply
+    → InfusedOn files out bytes after.kept left reply
+infuse_on words before after left files out bytes given reply answer (inl (w, same)) = absurd (w.faults.no_command (Infuse 1 2) (infuse_command words out given.class given.command given.is_out given.is_class))
+infuse_on words before after left files out bytes given reply answer (inr (inl (inl go, same))) = absurd (go_is_no_infuse go.option go.name out given.class (sym go.command ∙ given.command))
+infuse_on words before after left files out bytes given reply answer (inr (inl (inr run, same))) = absurd (run_is_no_infuse run.name run.option out given.class (sym run.command ∙ given.command))
+infuse_on words before after left files out bytes given reply answer (inr (inr (inl infuse))) =
+    let one = one_infuse infuse.out infuse.class out given.class (sym infuse.command ∙ given.command) in
+    let found : get files infuse.class ≡ Some bytes = ap (get files) one.1 ∙ given.found in
+    subst (λ (o : List ℕ). InfusedOn files o bytes after.kept left reply) one.0 (infuse_told files infuse.class infuse.out bytes before.kept after.kept left reply given.tells_kept found infuse.told)
+infuse_on words before after left files out bytes given reply answer (inr (inr (inr (inl load)))) = absurd (no_answer reply.status load.place (status_is load.is) answer)
+infuse_on words before after left files out bytes given reply answer (inr (inr (inr (inr store)))) = absurd (no_answer reply.status 1 (status_is store.is) answer)

@@ -1,6 +1,12 @@
+pub mod Answering
 pub mod Causes
 pub mod Choices
+pub mod Clauses
+pub mod Commands
 pub mod Notes
-pub mod Replies
-pub mod StraightSteps
-pub mod WordLemmas
+pub mod Places
+pub mod RunAnswers
+pub mod Runs
+pub mod Stores
+pub mod WordFaults
+pub mod WordTests

@@ -3,15 +3,30 @@ use Rattle.std.specs.Prelude.{ℕ, Bool, true, false, List, [], ◌∷◌, ◌++
 use Rattle.std.specs.List.{flat_map}
 use Rattle.jvm_model.specs.declared.refusal.Cause.{Cause}
 use Rattle.jvm_model.specs.declared.refusal.Cause.TheVariants as causes
+use Rattle.mote_top.specs.declared.status.ImageCause.{ImageCause}
+use Rattle.mote_top.specs.declared.status.ImageCause.TheVariants as image
 use Rattle.mote_top.specs.declared.status.Status.{Status}
-use Rattle.mote_top.specs.declared.status.Status.TheVariants.{Done, Words, Refused, ConsoleFault, ShelfFault, Memory}
+use Rattle.mote_top.specs.declared.status.Status.TheVariants.{Done, Uncaught, Words, Refused, Infusion, Spent, HeapWanted, StackWanted, ConsoleFault, ShelfFault, Misfit, Memory}
+
+-- the cells of the heap and of the stack
+abbrev pub default_heap : ℕ
+default_heap = 4096
+
+abbrev pub default_stack : ℕ
+default_stack = 1024
 
 abbrev pub code_of : Status → ℕ
 code_of Done = 0
+code_of (Uncaught class) = 1
 code_of (Words place) = 2
 code_of (Refused refusal) = 3
+code_of (Infusion refusal) = 4
+code_of Spent = 5
+code_of (HeapWanted need live) = 6
+code_of (StackWanted need used) = 7
 code_of ConsoleFault = 8
 code_of (ShelfFault word) = 9
+code_of (Misfit class place) = 10
 code_of Memory = 11
 
 -- a blank and a number in decimal
@@ -25,22 +40,50 @@ line word numbers = word ++ (flat_map blank_number numbers ++ 10 ∷ [])
 abbrev pub cause_word : Cause → List ℕ
 cause_word causes.NotClass = codes "notclass"
 cause_word causes.Unbuilt = codes "unbuilt"
+cause_word causes.FrameTooLarge = codes "frametoolarge"
+cause_word causes.CodeTooLong = codes "codetoolong"
 cause_word causes.Memory = codes "memory"
+
+abbrev pub image_word : ImageCause → List ℕ
+image_word image.NotInfusion = codes "notinfusion"
+image_word image.FormVersion = codes "formversion"
+image_word image.Truncated = codes "truncated"
+image_word image.Trailing = codes "trailing"
+image_word image.BadTable = codes "badtable"
+image_word image.BadCode = codes "badcode"
+image_word image.BadTarget = codes "badtarget"
+image_word image.BadId = codes "badid"
+image_word image.BadDepth = codes "baddepth"
+image_word image.Crosses = codes "crosses"
+image_word image.Falls = codes "falls"
+image_word image.Unbuilt = codes "unbuilt"
 
 -- what is noted at the end of a call
 abbrev pub note_of : Status → List ℕ
 note_of Done = []
+note_of (Uncaught class) = codes "uncaught " ++ (class ++ 10 ∷ [])
 note_of (Words place) = line (codes "words") (place ∷ [])
 note_of (Refused refusal) = codes "refused " ++ line (cause_word refusal.cause) (refusal.file ∷ refusal.member ∷ refusal.pc ∷ refusal.value ∷ [])
+note_of (Infusion refusal) = codes "infusion " ++ line (image_word refusal.cause) (refusal.a ∷ refusal.b ∷ [])
+note_of Spent = line (codes "spent") []
+note_of (HeapWanted need live) = (codes "heap need" ++ blank_number need) ++ ((codes " live" ++ blank_number live) ++ line (codes " size") (default_heap ∷ []))
+note_of (StackWanted need used) = (codes "stack need" ++ blank_number need) ++ ((codes " used" ++ blank_number used) ++ line (codes " size") (default_stack ∷ []))
 note_of ConsoleFault = []
 note_of (ShelfFault word) = line (codes "shelf") (word ∷ [])
+note_of (Misfit class place) = line (codes "misfit") (class ∷ place ∷ [])
 note_of Memory = []
 
 -- the status has a note line
 abbrev pub has_note : Status → Bool
 has_note Done = false
+has_note (Uncaught class) = true
 has_note (Words place) = true
 has_note (Refused refusal) = true
+has_note (Infusion refusal) = true
+has_note Spent = true
+has_note (HeapWanted need live) = true
+has_note (StackWanted need used) = true
 has_note ConsoleFault = false
 has_note (ShelfFault word) = true
+has_note (Misfit class place) = true
 has_note Memory = false

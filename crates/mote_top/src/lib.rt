@@ -1,17 +1,19 @@
 //! The whole program as one call: `mote` reads the words of a command, does what the command says over
 //! a shelf and a console, and answers a status. What a call answers is said by one relation, in
-//! specs/Reply.antt, which every clause of `mote` cites. This crate stands on `class_file`, which reads
-//! class files, `jvm_model`, which says what they mean, and `host_face`, which is the outside.
+//! specs/Reply.antt, from which every clause of `mote` follows; specs/Headline.antt has the words of the
+//! readable ones. This crate stands on `infuse_link`, which makes images of class files, `mote_core`,
+//! which runs them, `image_form` and `image_check`, which read and check infusions, and `host_face`,
+//! which is the outside.
 #![tactic(auto)]
 
+mod machine;
 mod note;
-mod run;
+mod program;
 mod status;
+#[cfg(test)]
+mod tests;
 mod top;
 mod words;
 
-pub use status::Status;
-pub use top::mote;
-
-#[cfg(test)]
-mod tests;
+pub use program::mote;
+pub use status::{ImageCause, ImageRefusal, Status};

@@ -1,12 +1,21 @@
-ghost use Rattle.std.specs.Prelude.{◌≡◌, ◌↔◌, IsTrue, map, MatchResult};
+ghost use Rattle.std.specs.Prelude.{◌≡◌, ◌≢◌, ◌<◌, ◌^◌, ◌∷◌, ◌↔◌, ℕ, IsTrue, IsNone, IfSome, map, MatchResult, codes, decimal};
 ghost use Rattle.std.specs.String.{string_bytes};
 ghost use Rattle.mote_top.specs.Words.{IsName, IsCommand, FaultsAt};
+
+use itoa::Buffer;
+
+/// The budget of ticks of a command without the option.
+const DEFAULT_TICKS: u64 = 100_000_000;
 
 /// A command; a name is the place of its word.
 #[derive(Clone, Copy, Debug, PartialEq, Eq)]
 pub enum Command {
-    /// Runs the class file of this name.
-    Go { class: u32 },
+    /// Stores the infusion of the class file `class` at the name `out`.
+    Infuse { out: u32, class: u32 },
+    /// Runs the infusion of this name on a budget of ticks.
+    Run { infusion: u32, ticks: u64 },
+    /// Infuses the class file of this name and runs it on a budget of ticks.
+    Go { ticks: u64, class: u32 },
 }
 
 /// The words are no command.
@@ -16,17 +25,124 @@ pub struct WordFault {
     pub place: u32,
 }
 
-/// Reads the words of a command: `go NAME`.
+/// Reads the words of a command: `infuse OUT CLASS`, `run INFUSION OPTIONS` or `go OPTIONS CLASS`, where
+/// OPTIONS are `--ticks N` or nothing.
 pub fn read_words(words: &[String]) -> Result<Command, WordFault>
     ensures { MatchResult result (IsCommand (map string_bytes words.now)) (λ fault. FaultsAt (map string_bytes words.now) fault.place) }
 {
-    match words {
-        [] => Err(WordFault { place: 0 }),
-        [first, ..] if first.as_str() != "go" => Err(WordFault { place: 0 }),
-        [_] => Err(WordFault { place: 1 }),
-        [_, name, ..] if !is_name(name.as_str()) => Err(WordFault { place: 1 }),
-        [_, _] => Ok(Command::Go { class: 1 }),
-        [_, _, _, ..] => Err(WordFault { place: 2 }),
+    let Some((first, rest)) = words.split_first() else {
+        return Err(WordFault { place: 0 });
+    };
+    let first = first.as_str();
+    if first == "infuse" {
+        read_infuse(rest)
+    } else if first == "run" {
+        read_run(rest)
+    } else if first == "go" {
+        read_go(rest)
+    } else {
+        Err(WordFault { place: 0 })
+    }
+}
+
+/// Reads what follows `infuse`.
+fn read_infuse(rest: &[String]) -> Result<Command, WordFault>
+    ensures { MatchResult result (IsCommand (codes "infuse" ∷ map string_bytes rest.now)) (λ fault. FaultsAt (codes "infuse" ∷ map string_bytes rest.now) fault.place) }
+{
+    let Some((out, rest)) = rest.split_first() else {
+        return Err(WordFault { place: 1 });
+    };
+    if !is_name(out.as_str()) {
+        return Err(WordFault { place: 1 });
+    }
+    let Some((class, rest)) = rest.split_first() else {
+        return Err(WordFault { place: 2 });
+    };
+    if !is_name(class.as_str()) {
+        return Err(WordFault { place: 2 });
+    }
+    if rest.is_empty() {
+        Ok(Command::Infuse { out: 1, class: 2 })
+    } else {
+        Err(WordFault { place: 3 })
+    }
+}
+
+/// Reads what follows `run`.
+fn read_run(rest: &[String]) -> Result<Command, WordFault>
+    ensures { MatchResult result (IsCommand (codes "run" ∷ map string_bytes rest.now)) (λ fault. FaultsAt (codes "run" ∷ map string_bytes rest.now) fault.place) }
+{
+    let Some((name, rest)) = rest.split_first() else {
+        return Err(WordFault { place: 1 });
+    };
+    if !is_name(name.as_str()) {
+        return Err(WordFault { place: 1 });
+    }
+    let Some((option, rest)) = rest.split_first() else {
+        return Ok(Command::Run {
+            infusion: 1,
+            ticks: DEFAULT_TICKS,
+        });
+    };
+    if option.as_str() != "--ticks" {
+        return Err(WordFault { place: 2 });
+    }
+    let Some((number, rest)) = rest.split_first() else {
+        return Err(WordFault { place: 3 });
+    };
+    let Some(ticks) = ticks_in(number.as_str()) else {
+        return Err(WordFault { place: 3 });
+    };
+    if rest.is_empty() {
+        Ok(Command::Run { infusion: 1, ticks })
+    } else {
+        Err(WordFault { place: 4 })
+    }
+}
+
+/// Reads what follows `go`.
+fn read_go(rest: &[String]) -> Result<Command, WordFault>
+    ensures { MatchResult result (IsCommand (codes "go" ∷ map string_bytes rest.now)) (λ fault. FaultsAt (codes "go" ∷ map string_bytes rest.now) fault.place) }
+{
+    let Some((first, behind)) = rest.split_first() else {
+        return Err(WordFault { place: 1 });
+    };
+    if first.as_str() == "--ticks" {
+        return read_go_ticks(behind);
+    }
+    if !is_name(first.as_str()) {
+        return Err(WordFault { place: 1 });
+    }
+    if behind.is_empty() {
+        Ok(Command::Go {
+            ticks: DEFAULT_TICKS,
+            class: 1,
+        })
+    } else {
+        Err(WordFault { place: 2 })
+    }
+}
+
+/// Reads what follows `go --ticks`.
+fn read_go_ticks(rest: &[String]) -> Result<Command, WordFault>
+    ensures { MatchResult result (IsCommand (codes "go" ∷ codes "--ticks" ∷ map string_bytes rest.now)) (λ fault. FaultsAt (codes "go" ∷ codes "--ticks" ∷ map string_bytes rest.now) fault.place) }
+{
+    let Some((number, rest)) = rest.split_first() else {
+        return Err(WordFault { place: 2 });
+    };
+    let Some(ticks) = ticks_in(number.as_str()) else {
+        return Err(WordFault { place: 2 });
+    };
+    let Some((class, rest)) = rest.split_first() else {
+        return Err(WordFault { place: 3 });
+    };
+    if !is_name(class.as_str()) {
+        return Err(WordFault { place: 3 });
+    }
+    if rest.is_empty() {
+        Ok(Command::Go { ticks, class: 3 })
+    } else {
+        Err(WordFault { place: 4 })
     }
 }
 
@@ -35,4 +151,15 @@ fn is_name(word: &str) -> bool
     ensures { IsTrue result ↔ IsName word.now }
 {
     word.as_bytes().first().is_some_and(|first| *first != b'-')
+}
+
+/// The number of 64 bits that the word is, in decimal without a sign or a leading zero.
+fn ticks_in(word: &str) -> Option<u64>
+    ensures some { IfSome result (λ ticks. word.now ≡ decimal ticks) }
+    ensures none { IsNone result → (ticks : ℕ) → ticks < 2 ^ 64 → word.now ≢ decimal ticks }
+{
+    let Ok(ticks) = word.parse::<u64>() else {
+        return None;
+    };
+    (Buffer::new().format(ticks) == word).then_some(ticks)
 }

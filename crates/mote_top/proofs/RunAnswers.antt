@@ -1,0 +1,90 @@
+-- What the run of a mote answers is the reply of its image.
+use Rattle.std.proofs.Common.{◌≡◌, ℕ, List, Option, Some, None, refl, sym, ap, subst, ◌∙◌}
+use Rattle.std.specs.Prelude.{IfSome}
+use Rattle.dialogue.specs.Dialogue.{Item}
+use Rattle.dialogue.specs.Outcome.{Outcome}
+use Rattle.image_form.specs.declared.record.Image.{Image}
+use Rattle.mote_model.specs.declared.ending.Ending.{Ending}
+use Rattle.mote_model.specs.declared.ending.Ending.TheVariants.{Done, Uncaught, Spent, HeapWanted, StackWanted, ConsoleFault, Misfit}
+use Rattle.mote_core.specs.Ready.{Ready, limits_of}
+use Rattle.mote_core.specs.Good.{IsStepEnding}
+use Rattle.mote_core.specs.Ran.{MayEnd, Ended, Failed, IsEndingSoFar, Ran}
+use Rattle.mote_top.specs.declared.status.Status.{Status}
+use Rattle.mote_top.specs.Endings.{split_status}
+use Rattle.mote_top.specs.Reply as reply
+use Rattle.mote_top.specs.Reply.{Reply, RunsImage, OnInput, IsRunEnd, Replied, Answers, dialogue_of}
+
+-- an ending so far has the status of a run's end, where the console did not fail
+abbrev IsEnd : Ending → Type 0
+IsEnd ending = (ending ≡ ConsoleFault → ⊥) × IsEndingSoFar ending
+
+end_status : (image : Image) (ending : Ending) → IsEnd ending → IsRunEnd (split_status image ending)
+end_status image Done end = tt
+end_status image (Uncaught class) end = tt
+end_status image Spent end = tt
+end_status image (HeapWanted need live) end = absurd end.1
+end_status image (StackWanted need used) end = tt
+end_status image ConsoleFault end = absurd (end.0 refl)
+end_status image (Misfit class place) end = absurd end.1
+
+step_status : (image : Image) (ending : Ending) → IsStepEnding ending → IsRunEnd (split_status image ending)
+step_status image Done known = tt
+step_status image Spent known = tt
+step_status image (Uncaught class) known = tt
+step_status image _ known = absurd known
+
+-- the reply of an outcome, with what is left
+abbrev made : Image → Outcome Ending → Option (List ℕ) → Reply
+made image outcome left = record { status = split_status image outcome.ending; dialogue = outcome.dialogue; left = left }
+
+runs_so : (ready : Ready) (ticks : ℕ) (old now : Option (List ℕ)) (outcome : Outcome Ending) → MayEnd ready ticks old outcome → IfSome old (λ _. now ≡ Some outcome.left) → OnInput old (RunsImage ready.image (limits_of ready ticks)) (made ready.image outcome now)
+runs_so ready ticks None now outcome may same = tt
+runs_so ready ticks (Some input) now outcome may same = record { outcome = outcome; ends = may; is = ap (made ready.image outcome) same }
+
+fails_so : (ready : Ready) (ticks : ℕ) (old : Option (List ℕ)) (outcome : Outcome Ending) → MayEnd ready ticks old outcome → OnInput old (RunsImage ready.image (limits_of ready ticks)) (made ready.image outcome (Some outcome.left))
+fails_so ready ticks None outcome may = tt
+fails_so ready ticks (Some input) outcome may = record { outcome = outcome; ends = may; is = refl }
+
+module _ {C : Type 0} (left shown noted : C → Option (List ℕ)) (faults : C → ℕ) (room : C → Option ℕ) (ready : Ready) (ticks : ℕ) (old new : C) where
+  abbrev May : Reply → Type 0
+  May r = OnInput (left old) (RunsImage ready.image (limits_of ready ticks)) r × IsRunEnd r.status
+
+  ended : (ending : Ending) → IsEnd ending → Ended left shown noted faults room ready ticks old new ending → Replied left shown noted faults room dialogue_of May old new (split_status ready.image ending)
+  ended ending end e =
+      record {
+        reply = made ready.image e.outcome (left new);
+        may = (runs_so ready ticks (left old) (left new) e.outcome e.may e.same_left, subst (λ (x : Ending). IsRunEnd (split_status ready.image x)) e.same (end_status ready.image ending end));
+        same = ap (split_status ready.image) e.same;
+        talked = e.talked;
+        same_left = refl;
+      }
+
+  failed : Failed left shown noted faults room ready ticks old new → reply.Failed shown noted faults room dialogue_of May old new
+  failed f =
+      record {
+        reply = made ready.image f.outcome (Some f.outcome.left);
+        may = (fails_so ready ticks (left old) f.outcome f.may, step_status ready.image f.outcome.ending f.known);
+        broke = f.broke;
+      }
+
+  -- the run answered this ending
+  pub run_answers : (ending : Ending) → IsEndingSoFar ending → Ran left shown noted faults room ready ticks old new ending → Answers left shown noted faults room dialogue_of May old new (split_status ready.image ending)
+  run_answers ConsoleFault so_far f = failed f
+  run_answers Done so_far e = ended Done (no_fault_done, so_far) e
+    where
+      no_fault_done : Done ≡ ConsoleFault → ⊥
+      no_fault_done e = cc
+  run_answers Spent so_far e = ended Spent (no_fault_spent, so_far) e
+    where
+      no_fault_spent : Spent ≡ ConsoleFault → ⊥
+      no_fault_spent e = cc
+  run_answers (Uncaught class) so_far e = ended (Uncaught class) (no_fault_uncaught, so_far) e
+    where
+      no_fault_uncaught : Uncaught class ≡ ConsoleFault → ⊥
+      no_fault_uncaught e = cc
+  run_answers (StackWanted need used) so_far e = ended (StackWanted need used) (no_fault_stack, so_far) e
+    where
+      no_fault_stack : StackWanted need used ≡ ConsoleFault → ⊥
+      no_fault_stack e = cc
+  run_answers (HeapWanted need live) so_far e = absurd so_far
+  run_answers (Misfit class place) so_far e = absurd so_far
