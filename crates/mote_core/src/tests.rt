@@ -11,6 +11,7 @@ use image_instr::Sig;
 use item_list::Items;
 use mote_model::Ending;
 use std::alloc::{AllocError, Global};
+use std::process::Abort;
 use std::test::*;
 
 /// A class Hi of one method with this code.
@@ -76,10 +77,23 @@ const DOWN: &[u8] = &[
     0x04, 3, 0x0d, 0, 0x0b, 0, 0xb4, 0, 3, 0x0f, 0, 0xff, 0xff, 0x0b, 0, 0x59, 0, 4, 0x79,
 ];
 
+/// The cells of locals and of the body, the code, the input, the budget of ticks, and what is to come:
+/// the ending and what is shown.
+type Row<'a> = (u16, u16, &'a [u8], &'a [u8], u64, Ending, &'a [u8]);
+
+fn run_each(rt: &impl Abort, alloc: Global, rows: &[Row<'_>]) -> Result<(), Fail> {
+    for (cell_locals, body, code, input, ticks, ending, shown) in rows {
+        let mut mote = mote_of(alloc, *cell_locals, *body, code)?;
+        let mut console = MemConsole::new(alloc, input, 12).ok().ok_or("no memory")?;
+        assert_eq!(rt; mote.run(&mut console, *ticks), *ending, "{code:?}");
+        assert_eq!(rt; console.shown(), *shown, "{code:?}");
+    }
+    Ok(())
+}
+
 #[test]
 fn runs_as_java_would(rt: HostRuntime) -> Result<(), Fail> {
-    // The cells of locals and of the body, the code, the input, the budget of ticks.
-    let rows: [(u16, u16, &[u8], &[u8], u64, Ending, &[u8]); 32] = [
+    let rows: [Row<'_>; 32] = [
         // SMALL2 72, CALLS write, SMALL2 105, CALLS write, RET: two ticks
         (0, 2, HI, b"", 2, Ending::Done, b"Hi"),
         (0, 2, HI, b"", 1, Ending::Spent, b"H"),
@@ -330,14 +344,7 @@ fn runs_as_java_would(rt: HostRuntime) -> Result<(), Fail> {
             b"-21474836481",
         ),
     ];
-    let alloc = rt.alloc();
-    for (cell_locals, body, code, input, ticks, ending, shown) in &rows {
-        let mut mote = mote_of(alloc, *cell_locals, *body, code)?;
-        let mut console = MemConsole::new(alloc, input, 12).ok().ok_or("no memory")?;
-        assert_eq!(rt; mote.run(&mut console, *ticks), *ending, "{code:?}");
-        assert_eq!(rt; console.shown(), *shown, "{code:?}");
-    }
-    Ok(())
+    run_each(&rt, rt.alloc(), &rows)
 }
 
 #[test]
