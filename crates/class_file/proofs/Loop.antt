@@ -1,57 +1,53 @@
--- Reading entries one after the other, as a loop does.
-use Rattle.std.proofs.Common.{◌≡◌, ℕ, zero, suc, ◌-◌, ◌+◌, ◌≤◌, ◌<◌, List, [], ◌∷◌, ◌++◌, length, Some, Result, Ok, Err, refl, sym, ap, ◌∙◌, append_assoc, arith}
-use Rattle.std.proofs.lemmas.List.{append-nil}
-use Rattle.class_file.specs.declared.pool.Const.{Const}
+-- Steps one after the other, as a loop does them.
+use Rattle.std.proofs.Common.{◌≡◌, ℕ, suc, ◌-◌, ◌+◌, ◌≤◌, ◌<◌, List, [], ◌∷◌, ◌++◌, Result, Ok, Err, refl, sym, subst, ◌∙◌, arith}
 use Rattle.class_file.specs.declared.refusal.ReadRefusal.{ReadRefusal}
-use Rattle.class_file.specs.declared.refusal.ReadRefusal.TheVariants.{NotClass, Unbuilt, Memory}
-use Rattle.class_file.specs.Pool.{Places}
-use Rattle.class_file.specs.Reading.{◌>>=◌, Gives, const_at, places_at}
-use Rattle.class_file.proofs.Steps.{bind_ok, ok_is}
+use Rattle.class_file.specs.declared.refusal.ReadRefusal.TheVariants.{NotClass, Version, Truncated, TrailingBytes, BadPool, BadShape, BadDescriptor, TooLarge, Memory}
+use Rattle.class_file.specs.Reading.{◌>>=◌, Gives, steps_at, one_more}
 
--- what was read before, and what is still read
-abbrev pub with_front : Places → Result (Places × List ℕ) ReadRefusal → Result (Places × List ℕ) ReadRefusal
-with_front front read = read >>= λ x. Ok (front ++ x.0, x.1)
+-- a refusal of a first step is that of the whole
+pub passed : {A B : Type 0} (why : ReadRefusal) (read : Result A ReadRefusal) (f : A → Result B ReadRefusal) → Gives (λ x. x) (Err why) read → Gives (λ x. x) (Err why) (read >>= f)
+passed Memory read f e = tt
+passed NotClass read f e = rw e refl
+passed (Version major) read f e = rw e refl
+passed Truncated read f e = rw e refl
+passed (TrailingBytes count) read f e = rw e refl
+passed (BadPool index) read f e = rw e refl
+passed BadShape read f e = rw e refl
+passed (BadDescriptor index) read f e = rw e refl
+passed (TooLarge size) read f e = rw e refl
 
-regroup : (front : Places) (entry : Const) (read : Result (Places × List ℕ) ReadRefusal) → with_front front (read >>= λ x. Ok (Some entry ∷ x.0, x.1)) ≡ with_front (front ++ Some entry ∷ []) read
-regroup front entry (Ok x) = ap (λ (places : Places). Ok (places, x.1)) (simp append_assoc)
-regroup front entry (Err e) = refl
+-- ---- steps
 
-pub goes_on : (front : Places) (count i : ℕ) (bytes : List ℕ) (entry : Const) (after : List ℕ) (total : Result (Places × List ℕ) ReadRefusal) → i < count → const_at bytes ≡ Ok (entry, after)
-    → with_front front (places_at (count - i) bytes) ≡ total → with_front (front ++ Some entry ∷ []) (places_at (count - (i + 1)) after) ≡ total
-unfolding places_at
-goes_on front count i bytes entry after total lt h so_far =
+pub goes_on : {A : Type 0} (step : A → List ℕ → Result (A × List ℕ) ReadRefusal) (before : A) (count i : ℕ) (bytes : List ℕ) (next : A) (after : List ℕ) (total : Result (A × List ℕ) ReadRefusal) → i < count
+    → step before bytes ≡ Ok (next, after) → steps_at step before (count - i) bytes ≡ total → steps_at step next (count - (i + 1)) after ≡ total
+unfolding steps_at
+goes_on step before count i bytes next after total lt e so_far =
     let k : count - i ≡ suc (count - (i + 1)) = omega arith in
-    let one : with_front front (places_at (count - i) bytes) ≡ with_front (front ++ Some entry ∷ []) (places_at (count - (i + 1)) after) = rw (k, h) (regroup front entry (places_at (count - (i + 1)) after)) in
+    let one : steps_at step before (count - i) bytes ≡ steps_at step next (count - (i + 1)) after = rw (k, e) refl in
     sym one ∙ so_far
 
--- the view does not matter for a refusal
-pub ends : (e : ReadRefusal) (front : Places) (count i : ℕ) (bytes : List ℕ) (total : Result (Places × List ℕ) ReadRefusal) → i < count
-    → Gives (λ x. x) (Err e) (const_at bytes) → with_front front (places_at (count - i) bytes) ≡ total → Gives (λ x. x) (Err e) total
-unfolding places_at
-ends Memory front count i bytes total lt h so_far = tt
-ends NotClass front count i bytes total lt h so_far =
+pub ends : {A : Type 0} (why : ReadRefusal) (step : A → List ℕ → Result (A × List ℕ) ReadRefusal) (before : A) (count i : ℕ) (bytes : List ℕ) (total : Result (A × List ℕ) ReadRefusal) → i < count
+    → Gives (λ x. x) (Err why) (step before bytes) → steps_at step before (count - i) bytes ≡ total → Gives (λ x. x) (Err why) total
+unfolding steps_at
+ends why step before count i bytes total lt given so_far =
     let k : count - i ≡ suc (count - (i + 1)) = omega arith in
-    let one : with_front front (places_at (count - i) bytes) ≡ Err NotClass = rw (k, h) refl in
-    sym so_far ∙ one
-ends Unbuilt front count i bytes total lt h so_far =
-    let k : count - i ≡ suc (count - (i + 1)) = omega arith in
-    let one : with_front front (places_at (count - i) bytes) ≡ Err Unbuilt = rw (k, h) refl in
-    sym so_far ∙ one
+    subst (Gives (λ x. x) (Err why)) (rw k at so_far) (passed why (step before bytes) (λ next. steps_at step next.0 (count - (i + 1)) next.1) given)
 
-pub is_done : (front : Places) (count i : ℕ) (bytes : List ℕ) (total : Result (Places × List ℕ) ReadRefusal) → count ≤ i → with_front front (places_at (count - i) bytes) ≡ total → total ≡ Ok (front, bytes)
-unfolding places_at
-is_done front count i bytes total le so_far =
+pub is_done : {A : Type 0} (step : A → List ℕ → Result (A × List ℕ) ReadRefusal) (before : A) (count i : ℕ) (bytes : List ℕ) (total : Result (A × List ℕ) ReadRefusal) → count ≤ i → steps_at step before (count - i) bytes ≡ total → total ≡ Ok (before, bytes)
+unfolding steps_at
+is_done step before count i bytes total le so_far =
     let k : count - i ≡ 0 = omega arith in
-    let one : with_front front (places_at (count - i) bytes) ≡ Ok (front, bytes) = rw k (ap (λ (places : Places). Ok (places, bytes)) (append-nil front)) in
+    let one : steps_at step before (count - i) bytes ≡ Ok (before, bytes) = rw k refl in
     sym so_far ∙ one
 
--- an entry was read for each count
-pub counted_places : (count : ℕ) (bytes : List ℕ) (places : Places) (rest : List ℕ) → places_at count bytes ≡ Ok (places, rest) → length places ≡ count
-unfolding places_at
-counted_places zero bytes places rest e = ap (λ (x : Places × List ℕ). length x.0) (sym (ok_is ([], bytes) (places, rest) e))
-counted_places (suc count) bytes places rest e =
-    let a = bind_ok (const_at bytes) _ (places, rest) e in
-    let b = bind_ok (places_at count a.0.1) _ (places, rest) a.2 in
-    let made = ok_is (Some a.0.0 ∷ b.0.0, b.0.1) (places, rest) b.2 in
-    let others = counted_places count a.0.1 b.0.0 b.0.1 b.1 in
-    ap (λ (x : Places × List ℕ). length x.0) (sym made) ∙ ap suc others
+-- ---- items
+
+pub item_goes_on : {A : Type 0} (item : List A → List ℕ → Result (A × List ℕ) ReadRefusal) (earlier : List A) (count i : ℕ) (bytes : List ℕ) (next : A) (after : List ℕ) (total : Result (List A × List ℕ) ReadRefusal) → i < count
+    → item earlier bytes ≡ Ok (next, after) → steps_at (one_more item) earlier (count - i) bytes ≡ total → steps_at (one_more item) (earlier ++ next ∷ []) (count - (i + 1)) after ≡ total
+item_goes_on item earlier count i bytes next after total lt e so_far =
+    goes_on (one_more item) earlier count i bytes (earlier ++ next ∷ []) after total lt (rw e refl) so_far
+
+pub item_ends : {A : Type 0} (why : ReadRefusal) (item : List A → List ℕ → Result (A × List ℕ) ReadRefusal) (earlier : List A) (count i : ℕ) (bytes : List ℕ) (total : Result (List A × List ℕ) ReadRefusal) → i < count
+    → Gives (λ x. x) (Err why) (item earlier bytes) → steps_at (one_more item) earlier (count - i) bytes ≡ total → Gives (λ x. x) (Err why) total
+item_ends why item earlier count i bytes total lt given so_far =
+    ends why (one_more item) earlier count i bytes total lt (passed why (item earlier bytes) (λ next. Ok (earlier ++ next.0 ∷ [], next.1)) given) so_far

@@ -1,13 +1,14 @@
 -- How a class file is laid out (JVMS 4.1, 4.5 to 4.7): its numbers and lists in the order of the bytes.
 -- A layout has one spelling. The attributes that are skipped stand in it, so a record alone has many.
-use Rattle.std.specs.Prelude.{ℕ, ◌+◌, List, [], ◌∷◌, ◌++◌, length, map, Option, Some, None}
+use Rattle.std.specs.Prelude.{ℕ, List, [], ◌∷◌, ◌++◌, length, map, Option, Some, None}
 use Rattle.std.specs.List.{flat_map}
 use Rattle.byteorder.specs.Endian.{big_bytes}
 use Rattle.class_file.specs.declared.record.ClassFile.{ClassFile}
 use Rattle.class_file.specs.declared.record.Member.{Member}
 use Rattle.class_file.specs.declared.record.CodeAttr.{CodeAttr}
 use Rattle.class_file.specs.declared.record.HandlerRow.{HandlerRow}
-use Rattle.class_file.specs.Pool.{Places, place_bytes}
+use Rattle.class_file.specs.declared.head.Head.{Head}
+use Rattle.class_pool.specs.Pool.{Places, pool_bytes}
 
 -- an attribute as such: the index of its name, and bytes
 pub record Attribute : Type 0 where
@@ -77,27 +78,35 @@ magic = 202 ∷ 254 ∷ 186 ∷ 190 ∷ []
 
 abbrev pub spelling : Layout → List ℕ
 spelling l =
-    magic ++ (u2 l.minor ++ (u2 l.major ++ ((u2 (length l.pool + 1) ++ flat_map place_bytes l.pool)
+    magic ++ (u2 l.minor ++ (u2 l.major ++ (pool_bytes l.pool
     ++ (u2 l.flags ++ (u2 l.this_class ++ (u2 l.super_class ++ (counted u2 l.interfaces
     ++ (counted member_bytes l.fields ++ (counted member_bytes l.methods ++ counted attribute_bytes l.attributes)))))))))
 
 -- ---- the record
 
--- the first Code, and the first ConstantValue
-abbrev pub code_in : List MemberAttribute → Option CodeAttr
-code_in [] = None
-code_in (Coded name code inner ∷ others) = Some code
-code_in (Valued name value ∷ others) = code_in others
-code_in (Skipped attribute ∷ others) = code_in others
+-- the Code attributes of a member, and the values of its ConstantValue attributes
+abbrev pub codes_in : List MemberAttribute → List CodeAttr
+codes_in [] = []
+codes_in (Coded name code inner ∷ others) = code ∷ codes_in others
+codes_in (Valued name value ∷ others) = codes_in others
+codes_in (Skipped attribute ∷ others) = codes_in others
 
-abbrev pub value_in : List MemberAttribute → Option ℕ
-value_in [] = None
-value_in (Coded name code inner ∷ others) = value_in others
-value_in (Valued name value ∷ others) = Some value
-value_in (Skipped attribute ∷ others) = value_in others
+abbrev pub values_in : List MemberAttribute → List ℕ
+values_in [] = []
+values_in (Coded name code inner ∷ others) = values_in others
+values_in (Valued name value ∷ others) = value ∷ values_in others
+values_in (Skipped attribute ∷ others) = values_in others
+
+-- the first, where there is one
+abbrev pub first : {A : Type 0} → List A → Option A
+first [] = None
+first (item ∷ others) = Some item
+
+abbrev pub head_of : MemberLayout → Head
+head_of m = record { flags = m.flags; name = m.name; descriptor = m.descriptor }
 
 abbrev pub member_of : MemberLayout → Member
-member_of m = record { flags = m.flags; name = m.name; descriptor = m.descriptor; constant = value_in m.attributes; code = code_in m.attributes }
+member_of m = record { flags = m.flags; name = m.name; descriptor = m.descriptor; constant = first (values_in m.attributes); code = first (codes_in m.attributes) }
 
 abbrev pub record_of : Layout → ClassFile
 record_of l =

@@ -1,7 +1,8 @@
-pub mod Utf8
-pub mod Pool
 pub mod Layout
-pub mod Members
+pub mod Rules
 pub mod Relation
 pub mod OneMain
 pub mod Reading
+pub mod ReadingMembers
+pub mod ReadingClass
+pub mod Refused

@@ -1,30 +1,17 @@
 -- The class file relation (JVMS 4.1 to 4.8): the bytes are the spelling of a layout whose numbers fit
--- their fields and which keeps the rules, and the record is that of the layout. The rules here are those
--- that a file of a form that is built can break; others come with the forms that they concern.
-use Rattle.std.specs.Prelude.{◌≡◌, ◌≢◌, ℕ, ◌/◌, ◌%◌, ◌^◌, ◌<◌, ◌≤◌, Bool, true, false, ◌&&◌, ◌||◌, not, ◌==◌, IsTrue, nat_eq, List, length, Some, IsSome, IsSomeAnd, codes}
-use Rattle.std.specs.List.{starts_with, AllByRecursion}
+-- their fields and which keeps the rules, and the record is that of the layout.
+use Rattle.std.specs.Prelude.{◌≡◌, ℕ, ◌^◌, ◌<◌, ◌≤◌, false, not, IsTrue, if◌then◌else◌, List, length, map, IsSome, IsSomeAnd, codes}
+use Rattle.std.specs.List.{AllByRecursion, IsDistinct}
+use Rattle.std.specs.Str.{bytes_eq}
+use Rattle.class_pool.specs.declared.descriptor.Kind.{Kind}
+use Rattle.class_pool.specs.declared.descriptor.Descriptor.{Descriptor}
+use Rattle.class_pool.specs.Pool.{Places, utf8_at, IsPool}
+use Rattle.class_pool.specs.Descriptors.{IsFieldText, IsMethodText}
 use Rattle.class_file.specs.declared.record.ClassFile.{ClassFile}
 use Rattle.class_file.specs.declared.record.CodeAttr.{CodeAttr}
 use Rattle.class_file.specs.declared.record.HandlerRow.{HandlerRow}
-use Rattle.class_file.specs.Pool.{Places, utf8_at, class_name_at, is_linked, FitsEntry, EachEntry, AreSpaced}
-use Rattle.class_file.specs.Layout.{Attribute, MemberAttribute, Coded, Valued, Skipped, plain, MemberLayout, Layout, spelling, record_of}
-
--- ---- flags (JVMS tables 4.1-A, 4.6-A)
-
-abbrev pub has_flag : ℕ → ℕ → Bool
-has_flag flag flags = flags / flag % 2 == 1
-
-abbrev pub is_public : ℕ → Bool
-is_public flags = has_flag 1 flags
-
-abbrev pub is_final : ℕ → Bool
-is_final flags = has_flag 16 flags
-
-abbrev pub is_interface : ℕ → Bool
-is_interface flags = has_flag 512 flags
-
-abbrev pub is_abstract : ℕ → Bool
-is_abstract flags = has_flag 1024 flags
+use Rattle.class_file.specs.Rules.{is_native, is_abstract, is_named, are_class_flags, names_class, has_one_access, fits_interface_field, fits_interface_method, fits_abstract, fits_special_name, fits_constructor, fits_initialiser, fits_places, is_same_member, is_code_size, is_handler}
+use Rattle.class_file.specs.Layout.{Attribute, MemberAttribute, Coded, Valued, Skipped, plain, MemberLayout, head_of, codes_in, values_in, Layout, spelling, record_of}
 
 -- ---- the numbers fit their fields
 
@@ -70,8 +57,6 @@ pub record FitsMember (m : MemberLayout) : Type 0 where
 pub record FitsLayout (l : Layout) : Type 0 where
   pub minor : FitsU2 l.minor
   pub major : FitsU2 l.major
-  pub places : length l.pool < 65535
-  pub pool : EachEntry FitsEntry l.pool
   pub flags : FitsU2 l.flags
   pub this_class : FitsU2 l.this_class
   pub super_class : FitsU2 l.super_class
@@ -86,52 +71,82 @@ pub record FitsLayout (l : Layout) : Type 0 where
 
 -- ---- the rules
 
--- the name does not begin with a bracket
-abbrev pub is_array_name : List ℕ → Bool
-is_array_name name = starts_with nat_eq name (codes "[")
+-- an attribute of which only the name is asked
+abbrev pub IsSkippable : Places → Attribute → Type 0
+IsSkippable pool a = IsSome (utf8_at pool a.name)
 
--- the entry is a class and no array (JVMS 4.1: this_class, super_class, interfaces)
-abbrev pub NamesClass : Places → ℕ → Type 0
-NamesClass pool index = IsSomeAnd (class_name_at pool index) (λ name. is_array_name name ≡ false)
+-- an attribute of another name than this one
+abbrev pub HasOtherName : List ℕ → Places → Attribute → Type 0
+HasOtherName name pool a = IsSomeAnd (utf8_at pool a.name) (λ other. bytes_eq other name ≡ false)
 
--- an interface is abstract, and a final class is not (JVMS 4.1)
-abbrev pub are_class_flags : ℕ → Bool
-are_class_flags flags = (is_abstract flags || not (is_interface flags)) && not (is_final flags && is_abstract flags)
+-- the size of the code, the rows of the exception table, and the attributes inside (JVMS 4.7.3)
+pub record IsRegularCode (pool : Places) (c : CodeAttr) (inner : List Attribute) : Type 0 where
+  pub size : IsTrue (is_code_size (length c.code))
+  pub handlers : AllByRecursion (λ row. IsTrue (is_handler pool (length c.code) row)) c.handlers
+  pub inner_names : AllByRecursion (IsSkippable pool) inner
 
--- an interface's method is public and abstract, unless it is its initialiser (JVMS 4.6)
-abbrev pub FitsInterface : ℕ → Places → MemberLayout → Type 0
-FitsInterface class_flags pool m =
-    is_interface class_flags ≡ true → utf8_at pool m.name ≢ Some (codes "<clinit>") → IsTrue (is_public m.flags && is_abstract m.flags)
+-- of a field's attributes ConstantValue is read, and no other (JVMS 4.7.2)
+abbrev pub IsFieldAttribute : Places → MemberAttribute → Type 0
+IsFieldAttribute pool (Coded name code inner) = ⊥
+IsFieldAttribute pool (Valued name value) = IsTrue (is_named (codes "ConstantValue") (utf8_at pool name))
+IsFieldAttribute pool (Skipped attribute) = HasOtherName (codes "ConstantValue") pool attribute
 
--- the name tells the kind of the attribute, and code has 1 to 65,535 bytes (JVMS 4.7.2, 4.7.3)
-abbrev pub IsNamedAttribute : Places → MemberAttribute → Type 0
-IsNamedAttribute pool (Coded name code inner) = (utf8_at pool name ≡ Some (codes "Code")) × (0 < length code.code) × (length code.code < 65536)
-IsNamedAttribute pool (Valued name value) = utf8_at pool name ≡ Some (codes "ConstantValue")
-IsNamedAttribute pool (Skipped attribute) = IsSome (utf8_at pool attribute.name)
+-- of a method's attributes Code is read, and no other (JVMS 4.7.3)
+abbrev pub IsMethodAttribute : Places → MemberAttribute → Type 0
+IsMethodAttribute pool (Coded name code inner) = IsTrue (is_named (codes "Code") (utf8_at pool name)) × IsRegularCode pool code inner
+IsMethodAttribute pool (Valued name value) = ⊥
+IsMethodAttribute pool (Skipped attribute) = HasOtherName (codes "Code") pool attribute
 
-pub record IsRegularMember (pool : Places) (m : MemberLayout) : Type 0 where
+-- a field of a class with these flags (JVMS 4.5)
+pub record IsRegularField (class_flags : ℕ) (pool : Places) (m : MemberLayout) : Type 0 where
+  pub type : Kind
   pub name : IsSome (utf8_at pool m.name)
-  pub descriptor : IsSome (utf8_at pool m.descriptor)
-  pub attributes : AllByRecursion (IsNamedAttribute pool) m.attributes
+  pub descriptor : IsSomeAnd (utf8_at pool m.descriptor) (λ text. IsFieldText text type)
+  pub access : IsTrue (has_one_access m.flags)
+  pub of_interface : IsTrue (fits_interface_field class_flags m.flags)
+  pub attributes : AllByRecursion (IsFieldAttribute pool) m.attributes
+  pub one_value : length (values_in m.attributes) ≤ 1
+
+-- a method of a class with these flags (JVMS 4.6)
+pub record IsRegularMethod (class_flags : ℕ) (pool : Places) (m : MemberLayout) : Type 0 where
+  pub type : Descriptor
+  pub name : IsSome (utf8_at pool m.name)
+  pub descriptor : IsSomeAnd (utf8_at pool m.descriptor) (λ text. IsMethodText text type)
+  pub access : IsTrue (has_one_access m.flags)
+  pub of_interface : IsTrue (fits_interface_method class_flags pool (head_of m))
+  pub not_native : IsTrue (not (is_native m.flags))
+  pub abstract_flags : IsTrue (fits_abstract pool (head_of m))
+  pub special_name : IsTrue (fits_special_name pool (head_of m))
+  pub constructor : IsTrue (fits_constructor pool (head_of m) type)
+  pub initialiser : IsTrue (fits_initialiser pool (head_of m))
+  pub places : IsTrue (fits_places pool (head_of m) type)
+  pub attributes : AllByRecursion (IsMethodAttribute pool) m.attributes
+  pub one_code : length (codes_in m.attributes) ≡ (if is_abstract m.flags then 0 else 1)
 
 pub record IsRegular (l : Layout) : Type 0 where
   pub first_version : 45 ≤ l.major
   pub last_version : l.major ≤ 52
-  pub spaced : AreSpaced l.pool
-  pub linked : EachEntry (λ entry. IsTrue (is_linked l.pool entry)) l.pool
+  pub is_pool : IsPool l.pool
   pub class_flags : IsTrue (are_class_flags l.flags)
-  pub this_class : NamesClass l.pool l.this_class
-  pub super_class : NamesClass l.pool l.super_class
-  pub interfaces : AllByRecursion (NamesClass l.pool) l.interfaces
-  pub fields : AllByRecursion (IsRegularMember l.pool) l.fields
-  pub methods : AllByRecursion (IsRegularMember l.pool) l.methods
-  pub interface_methods : AllByRecursion (FitsInterface l.flags l.pool) l.methods
+  pub this_class : IsTrue (names_class l.pool l.this_class)
+  pub super_class : IsTrue (names_class l.pool l.super_class)
+  pub interfaces : AllByRecursion (λ index. IsTrue (names_class l.pool index)) l.interfaces
+  pub fields : AllByRecursion (IsRegularField l.flags l.pool) l.fields
+  pub different_fields : IsDistinct (is_same_member l.pool) (map head_of l.fields)
+  pub methods : AllByRecursion (IsRegularMethod l.flags l.pool) l.methods
+  pub different_methods : IsDistinct (is_same_member l.pool) (map head_of l.methods)
+  pub attributes : AllByRecursion (IsSkippable l.pool) l.attributes
 
 -- ---- the relation
+
+-- how many bytes a class file may have
+abbrev pub largest : ℕ
+largest = 1048576
 
 -- the bytes are a class file laid out so, and this is its record
 pub record IsLaidOut (bytes : List ℕ) (l : Layout) (file : ClassFile) : Type 0 where
   pub spelled : bytes ≡ spelling l
+  pub size : length bytes ≤ largest
   pub fits : FitsLayout l
   pub regular : IsRegular l
   pub stands : file ≡ record_of l

@@ -1,27 +1,32 @@
 //! From the bytes of a class file (JVMS chapter 4) to its record, exactly. The main call is
 //! `read_class`. What stands between the bytes and the record is the class file relation, in
 //! specs/Relation.antt: the bytes are the spelling of a layout, the layout keeps the rules, and the
-//! record is that of the layout. The reader takes class files of one main alone, in
-//! specs/OneMain.antt: what the code of main is, it leaves to those who run it. What a reader of a
-//! pool asks, `method_name` and the methods of `Pool` answer. This crate stands on `item_list` and on
-//! the kit's `byteorder`.
+//! record is that of the layout. Why other bytes are refused is in specs/Refused.antt, and the order in
+//! which faults are found in specs/ReadingClass.antt. `is_one_main` tells the class files of one main,
+//! in specs/OneMain.antt. This crate stands on `class_pool`, `item_list` and the kit's `byteorder`.
 #![tactic(auto)]
 
-mod entry;
+mod attribute;
+mod class;
+mod code;
 mod field;
+mod flags;
+mod head;
 mod member;
-mod members;
 mod names;
-mod pool;
+mod one_main;
 mod read;
 mod record;
 mod refusal;
 #[cfg(test)]
+mod rule_tests;
+mod rules;
+#[cfg(test)]
+mod samples;
+#[cfg(test)]
 mod tests;
-mod utf8;
 
-pub use members::{MemberName, method_name, name_and_type_in};
-pub use pool::{Const, Pool, Text};
+pub use one_main::is_one_main;
 pub use read::read_class;
 pub use record::{ClassFile, CodeAttr, HandlerRow, Member};
 pub use refusal::ReadRefusal;

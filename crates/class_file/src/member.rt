@@ -1,93 +1,345 @@
-//! The one method, main (JVMS 4.6), with its `Code` attribute (JVMS 4.7.3).
+//! Fields and methods (JVMS 4.5, 4.6), with the attributes that are read.
 
-ghost use Rattle.std.specs.Prelude.{◌≡◌};
-ghost use Rattle.class_file.specs.Reading.{Gives, code_at, is_code_size, attribute_at, is_main, main_at};
+ghost use Rattle.std.specs.Prelude.{◌≡◌, [], None};
+ghost use Rattle.class_file.specs.Reading.{Gives, steps_at, one_more};
+ghost use Rattle.class_file.specs.ReadingMembers.{value_at, field_attribute_at, method_attribute_at, field_attributes_at, method_attributes_at, head_at, field_type, method_type, field_head_at, method_head_at, field_at, method_at, fields_at, methods_at};
 
-use crate::field::{expect_at, slice_at, u2_at, u4_at};
-use crate::pool::Pool;
+use crate::attribute::{info_at, text_at};
+use crate::code::code_at;
+use crate::field::u2_at;
+use crate::flags::is_abstract;
+use crate::head::Head;
+use crate::names::is_text;
 use crate::record::{CodeAttr, Member};
 use crate::refusal::ReadRefusal;
+use crate::rules::{is_declared, is_field_head, is_method_head};
+use byteorder::{BigEndian, ByteOrder};
+use class_pool::{
+    Descriptor, DescriptorRefusal, Kind, Pool, read_descriptor, read_field_descriptor,
+};
 use item_list::Items;
 use std::alloc::Global;
 
-/// What a `Code` attribute holds, where no handler and no attribute stands in it.
-#[tactic(auto, unfolding(crate::specs::Reading::code_at))]
-fn code_at(alloc: Global, bytes: &[u8]) -> Result<(CodeAttr, &[u8]), ReadRefusal>
-    ensures { Gives (λ x. (x.0, x.1.now)) result (code_at bytes.now) }
+/// What stands behind the name `ConstantValue` (JVMS 4.7.2).
+#[tactic(auto, unfolding(crate::specs::ReadingMembers::value_at))]
+fn value_at(bytes: &[u8]) -> Result<(u16, &[u8]), ReadRefusal>
+    ensures { Gives (λ x. (x.0, x.1.now)) result (value_at bytes.now) }
 {
-    let (max_stack, rest) = u2_at(bytes)?;
-    let (max_locals, rest) = u2_at(rest)?;
-    let (size, rest) = u4_at(rest)?;
-    let (code, rest) = slice_at(size as usize, rest)?;
-    let rest = expect_at(0, rest)?;
-    let rest = expect_at(0, rest)?;
-    let code = CodeAttr {
-        max_stack,
-        max_locals,
-        code: Items::from_vec(Vec::from_slice(alloc, code)?),
-        handlers: Items::empty(alloc),
-    };
-    Ok((code, rest))
+    let (info, rest) = info_at(bytes)?;
+    if info.len() != 2 {
+        return Err(ReadRefusal::BadShape);
+    }
+    Ok((BigEndian::read_u16(info), rest))
 }
 
-/// Code has 1 to 65,535 bytes (JVMS 4.7.3).
-fn is_code_size(size: usize) -> bool
-    ensures { result ≡ is_code_size size }
+/// An attribute of a field, behind others of which one may have been `ConstantValue`.
+#[tactic(auto, unfolding(crate::specs::ReadingMembers::field_attribute_at))]
+fn field_attribute_at<'a>(
+    pool: &Pool,
+    found: Option<u16>,
+    bytes: &'a [u8],
+) -> Result<(Option<u16>, &'a [u8]), ReadRefusal>
+    ensures { Gives (λ x. (x.0, x.1.now)) result (field_attribute_at pool.now found bytes.now) }
 {
-    0 < size && size < 65_536
+    let (name, rest) = text_at(pool, bytes)?;
+    if !is_text(pool, name, b"ConstantValue") {
+        let (_, rest) = info_at(rest)?;
+        return Ok((found, rest));
+    }
+    if found.is_some() {
+        return Err(ReadRefusal::BadShape);
+    }
+    let (value, rest) = value_at(rest)?;
+    Ok((Some(value), rest))
 }
 
-/// A `Code` attribute.
-#[tactic(auto, unfolding(crate::specs::Reading::attribute_at))]
-fn attribute_at<'a>(
-    alloc: Global,
+/// So many attributes of a field.
+fn field_attributes<'a>(
+    pool: &Pool,
+    count: u16,
+    bytes: &'a [u8],
+) -> Result<(Option<u16>, &'a [u8]), ReadRefusal>
+    ensures { Gives (λ x. (x.0, x.1.now)) result (steps_at (field_attribute_at pool.now) None count bytes.now) }
+{
+    let mut found = None;
+    let mut rest = bytes;
+    for _ in 0..count {
+        let (value, after) = field_attribute_at(pool, found, rest)?;
+        found = value;
+        rest = after;
+    }
+    Ok((found, rest))
+}
+
+/// The attributes of a field: the value of its `ConstantValue`, where there is one.
+#[tactic(auto, unfolding(crate::specs::ReadingMembers::field_attributes_at, crate::specs::Reading::counted_at))]
+fn field_attributes_at<'a>(
     pool: &Pool,
     bytes: &'a [u8],
-) -> Result<(CodeAttr, &'a [u8]), ReadRefusal>
-    ensures { Gives (λ x. (x.0, x.1.now)) result (attribute_at pool.now bytes.now) }
+) -> Result<(Option<u16>, &'a [u8]), ReadRefusal>
+    ensures { Gives (λ x. (x.0, x.1.now)) result (field_attributes_at pool.now bytes.now) }
 {
-    let (name, rest) = u2_at(bytes)?;
-    let (size, rest) = u4_at(rest)?;
-    let (code, rest) = code_at(alloc, rest)?;
-    if !pool.is_text(name, b"Code")
-        || size as usize != 12 + code.code.len()
-        || !is_code_size(code.code.len())
-    {
-        return Err(ReadRefusal::Unbuilt);
+    let (count, rest) = u2_at(bytes)?;
+    field_attributes(pool, count, rest)
+}
+
+/// An attribute of a method, behind others of which one may have been `Code`.
+#[tactic(auto, unfolding(crate::specs::ReadingMembers::method_attribute_at))]
+fn method_attribute_at<'a>(
+    alloc: Global,
+    pool: &Pool,
+    is_abstract: bool,
+    found: Option<CodeAttr>,
+    bytes: &'a [u8],
+) -> Result<(Option<CodeAttr>, &'a [u8]), ReadRefusal>
+    ensures { Gives (λ x. (x.0, x.1.now)) result (method_attribute_at pool.now is_abstract found bytes.now) }
+{
+    let (name, rest) = text_at(pool, bytes)?;
+    if !is_text(pool, name, b"Code") {
+        let (_, rest) = info_at(rest)?;
+        return Ok((found, rest));
+    }
+    if is_abstract || found.is_some() {
+        return Err(ReadRefusal::BadShape);
+    }
+    let (code, rest) = code_at(alloc, pool, rest)?;
+    Ok((Some(code), rest))
+}
+
+/// So many attributes of a method.
+fn method_attributes<'a>(
+    alloc: Global,
+    pool: &Pool,
+    is_abstract: bool,
+    count: u16,
+    bytes: &'a [u8],
+) -> Result<(Option<CodeAttr>, &'a [u8]), ReadRefusal>
+    ensures { Gives (λ x. (x.0, x.1.now)) result (steps_at (method_attribute_at pool.now is_abstract) None count bytes.now) }
+{
+    let mut found = None;
+    let mut rest = bytes;
+    for _ in 0..count {
+        let (code, after) = method_attribute_at(alloc, pool, is_abstract, found, rest)?;
+        found = code;
+        rest = after;
+    }
+    Ok((found, rest))
+}
+
+/// The attributes of a method: its `Code`, which is missing on no method but an abstract one.
+#[tactic(auto, unfolding(crate::specs::ReadingMembers::method_attributes_at, crate::specs::Reading::counted_at))]
+fn method_attributes_at<'a>(
+    alloc: Global,
+    pool: &Pool,
+    is_abstract: bool,
+    bytes: &'a [u8],
+) -> Result<(Option<CodeAttr>, &'a [u8]), ReadRefusal>
+    ensures { Gives (λ x. (x.0, x.1.now)) result (method_attributes_at pool.now is_abstract bytes.now) }
+{
+    let (count, rest) = u2_at(bytes)?;
+    let (code, rest) = method_attributes(alloc, pool, is_abstract, count, rest)?;
+    if !is_abstract && code.is_none() {
+        return Err(ReadRefusal::BadShape);
     }
     Ok((code, rest))
 }
 
-/// The member is `public static main()V`.
-fn is_main(pool: &Pool, flags: u16, name: u16, descriptor: u16) -> bool
-    ensures { result ≡ is_main pool.now flags name descriptor }
-{
-    flags == 9 && pool.is_text(name, b"main") && pool.is_text(descriptor, b"()V")
-}
-
-/// The method `main`, with one attribute.
-#[tactic(auto, unfolding(crate::specs::Reading::main_at))]
-pub(crate) fn main_at<'a>(
-    alloc: Global,
-    pool: &Pool,
-    bytes: &'a [u8],
-) -> Result<(Member, &'a [u8]), ReadRefusal>
-    ensures { Gives (λ x. (x.0, x.1.now)) result (main_at pool.now bytes.now) }
+/// Flags, name and descriptor.
+#[tactic(auto, unfolding(crate::specs::ReadingMembers::head_at))]
+fn head_at<'a>(pool: &Pool, bytes: &'a [u8]) -> Result<(Head, &'a [u8]), ReadRefusal>
+    ensures { Gives (λ x. (x.0, x.1.now)) result (head_at pool.now bytes.now) }
 {
     let (flags, rest) = u2_at(bytes)?;
-    let (name, rest) = u2_at(rest)?;
-    let (descriptor, rest) = u2_at(rest)?;
-    let rest = expect_at(1, rest)?;
-    let (code, rest) = attribute_at(alloc, pool, rest)?;
-    if !is_main(pool, flags, name, descriptor) {
-        return Err(ReadRefusal::Unbuilt);
-    }
-    let main = Member {
+    let (name, rest) = text_at(pool, rest)?;
+    let (descriptor, rest) = text_at(pool, rest)?;
+    let head = Head {
         flags,
         name,
         descriptor,
-        constant: None,
-        code: Some(code),
     };
-    Ok((main, rest))
+    Ok((head, rest))
+}
+
+/// The type of a field whose descriptor has this index.
+#[tactic(auto, unfolding(crate::specs::ReadingMembers::field_type))]
+fn field_type(alloc: Global, pool: &Pool, index: u16) -> Result<Kind, ReadRefusal>
+    ensures { Gives (λ kind. kind) result (field_type pool.now index) }
+{
+    let Some(text) = pool.utf8(index) else {
+        return Err(ReadRefusal::BadDescriptor { index });
+    };
+    match read_field_descriptor(alloc, text) {
+        Ok(kind) => Ok(kind),
+        Err(DescriptorRefusal::BadDescriptor) => Err(ReadRefusal::BadDescriptor { index }),
+        Err(DescriptorRefusal::Memory) => Err(ReadRefusal::Memory),
+    }
+}
+
+/// The types of a method whose descriptor has this index.
+#[tactic(auto, unfolding(crate::specs::ReadingMembers::method_type))]
+fn method_type(alloc: Global, pool: &Pool, index: u16) -> Result<Descriptor, ReadRefusal>
+    ensures { Gives (λ descriptor. descriptor) result (method_type pool.now index) }
+{
+    let Some(text) = pool.utf8(index) else {
+        return Err(ReadRefusal::BadDescriptor { index });
+    };
+    match read_descriptor(alloc, text) {
+        Ok(descriptor) => Ok(descriptor),
+        Err(DescriptorRefusal::BadDescriptor) => Err(ReadRefusal::BadDescriptor { index }),
+        Err(DescriptorRefusal::Memory) => Err(ReadRefusal::Memory),
+    }
+}
+
+/// Flags, name and descriptor of a field, by the rules.
+#[tactic(auto, unfolding(crate::specs::ReadingMembers::field_head_at))]
+fn field_head_at<'a>(
+    alloc: Global,
+    class_flags: u16,
+    pool: &Pool,
+    earlier: &[Member],
+    bytes: &'a [u8],
+) -> Result<(Head, &'a [u8]), ReadRefusal>
+    ensures { Gives (λ x. (x.0, x.1.now)) result (field_head_at class_flags pool.now earlier.now bytes.now) }
+{
+    let (head, rest) = head_at(pool, bytes)?;
+    let _kind = field_type(alloc, pool, head.descriptor)?;
+    if !is_field_head(class_flags, head) || is_declared(pool, earlier, head) {
+        return Err(ReadRefusal::BadShape);
+    }
+    Ok((head, rest))
+}
+
+/// Flags, name and descriptor of a method, by the rules.
+#[tactic(auto, unfolding(crate::specs::ReadingMembers::method_head_at))]
+fn method_head_at<'a>(
+    alloc: Global,
+    class_flags: u16,
+    pool: &Pool,
+    earlier: &[Member],
+    bytes: &'a [u8],
+) -> Result<(Head, &'a [u8]), ReadRefusal>
+    ensures { Gives (λ x. (x.0, x.1.now)) result (method_head_at class_flags pool.now earlier.now bytes.now) }
+{
+    let (head, rest) = head_at(pool, bytes)?;
+    let descriptor = method_type(alloc, pool, head.descriptor)?;
+    if !is_method_head(class_flags, pool, head, &descriptor) || is_declared(pool, earlier, head) {
+        return Err(ReadRefusal::BadShape);
+    }
+    Ok((head, rest))
+}
+
+/// A field of a class with these flags, behind the earlier ones.
+#[tactic(auto, unfolding(crate::specs::ReadingMembers::field_at))]
+fn field_at<'a>(
+    alloc: Global,
+    class_flags: u16,
+    pool: &Pool,
+    earlier: &[Member],
+    bytes: &'a [u8],
+) -> Result<(Member, &'a [u8]), ReadRefusal>
+    ensures { Gives (λ x. (x.0, x.1.now)) result (field_at class_flags pool.now earlier.now bytes.now) }
+{
+    let (head, rest) = field_head_at(alloc, class_flags, pool, earlier, bytes)?;
+    let (constant, rest) = field_attributes_at(pool, rest)?;
+    let field = Member {
+        flags: head.flags,
+        name: head.name,
+        descriptor: head.descriptor,
+        constant,
+        code: None,
+    };
+    Ok((field, rest))
+}
+
+/// A method of a class with these flags, behind the earlier ones.
+#[tactic(auto, unfolding(crate::specs::ReadingMembers::method_at))]
+fn method_at<'a>(
+    alloc: Global,
+    class_flags: u16,
+    pool: &Pool,
+    earlier: &[Member],
+    bytes: &'a [u8],
+) -> Result<(Member, &'a [u8]), ReadRefusal>
+    ensures { Gives (λ x. (x.0, x.1.now)) result (method_at class_flags pool.now earlier.now bytes.now) }
+{
+    let (head, rest) = method_head_at(alloc, class_flags, pool, earlier, bytes)?;
+    let (code, rest) = method_attributes_at(alloc, pool, is_abstract(head.flags), rest)?;
+    let method = Member {
+        flags: head.flags,
+        name: head.name,
+        descriptor: head.descriptor,
+        constant: None,
+        code,
+    };
+    Ok((method, rest))
+}
+
+/// So many fields.
+fn field_list<'a>(
+    alloc: Global,
+    class_flags: u16,
+    pool: &Pool,
+    count: u16,
+    bytes: &'a [u8],
+) -> Result<(Vec<Member>, &'a [u8]), ReadRefusal>
+    ensures { Gives (λ x. (x.0.items, x.1.now)) result (steps_at (one_more (field_at class_flags pool.now)) [] count bytes.now) }
+{
+    let mut fields = Vec::new(alloc);
+    let mut rest = bytes;
+    for _ in 0..count {
+        let (field, after) = field_at(alloc, class_flags, pool, fields.as_slice(), rest)?;
+        fields.push(field)?;
+        rest = after;
+    }
+    Ok((fields, rest))
+}
+
+/// The fields of a class with these flags.
+#[tactic(auto, unfolding(crate::specs::ReadingMembers::fields_at, crate::specs::Reading::counted_at))]
+pub(crate) fn fields_at<'a>(
+    alloc: Global,
+    class_flags: u16,
+    pool: &Pool,
+    bytes: &'a [u8],
+) -> Result<(Items<Member>, &'a [u8]), ReadRefusal>
+    ensures { Gives (λ x. (x.0, x.1.now)) result (fields_at class_flags pool.now bytes.now) }
+{
+    let (count, rest) = u2_at(bytes)?;
+    let (fields, rest) = field_list(alloc, class_flags, pool, count, rest)?;
+    Ok((Items::from_vec(fields), rest))
+}
+
+/// So many methods.
+fn method_list<'a>(
+    alloc: Global,
+    class_flags: u16,
+    pool: &Pool,
+    count: u16,
+    bytes: &'a [u8],
+) -> Result<(Vec<Member>, &'a [u8]), ReadRefusal>
+    ensures { Gives (λ x. (x.0.items, x.1.now)) result (steps_at (one_more (method_at class_flags pool.now)) [] count bytes.now) }
+{
+    let mut methods = Vec::new(alloc);
+    let mut rest = bytes;
+    for _ in 0..count {
+        let (method, after) = method_at(alloc, class_flags, pool, methods.as_slice(), rest)?;
+        methods.push(method)?;
+        rest = after;
+    }
+    Ok((methods, rest))
+}
+
+/// The methods of a class with these flags.
+#[tactic(auto, unfolding(crate::specs::ReadingMembers::methods_at, crate::specs::Reading::counted_at))]
+pub(crate) fn methods_at<'a>(
+    alloc: Global,
+    class_flags: u16,
+    pool: &Pool,
+    bytes: &'a [u8],
+) -> Result<(Items<Member>, &'a [u8]), ReadRefusal>
+    ensures { Gives (λ x. (x.0, x.1.now)) result (methods_at class_flags pool.now bytes.now) }
+{
+    let (count, rest) = u2_at(bytes)?;
+    let (methods, rest) = method_list(alloc, class_flags, pool, count, rest)?;
+    Ok((Items::from_vec(methods), rest))
 }

@@ -1,63 +1,52 @@
-//! What the entries of the constant pool name, and the names that a class file of one main asks for.
+//! What the indexes of a class file name in its constant pool.
 
 ghost use Rattle.std.specs.Prelude.{◌≡◌};
-ghost use Rattle.class_file.specs.Pool.{utf8_at, class_name_at, is_utf8_at, is_class_at, is_name_and_type_at};
-ghost use Rattle.class_file.specs.Relation.{is_array_name};
-ghost use Rattle.class_file.specs.OneMain.{is_reserved};
-ghost use Rattle.class_file.specs.Reading.{is_named, is_own_name};
+ghost use Rattle.class_pool.specs.Pool.{utf8_at, is_utf8_at, is_class_at};
+ghost use Rattle.class_file.specs.Rules.{is_named, is_array_name, names_class, is_same_text, is_special_name};
 
-use crate::pool::{Const, Pool};
+use class_pool::{Const, Pool};
 
-impl Pool {
-    /// The entry at an index is a text.
-    pub(crate) fn is_utf8(&self, index: u16) -> bool
-        ensures { result ≡ is_utf8_at self.now index }
-    {
-        matches!(self.get(index), Some(Const::Utf8(_)))
+/// The entry at an index is a text.
+pub(crate) fn is_utf8(pool: &Pool, index: u16) -> bool
+    ensures { result ≡ is_utf8_at pool.now index }
+{
+    matches!(pool.get(index), Some(Const::Utf8(_)))
+}
+
+/// The entry at an index is a class.
+pub(crate) fn is_class(pool: &Pool, index: u16) -> bool
+    ensures { result ≡ is_class_at pool.now index }
+{
+    matches!(pool.get(index), Some(Const::Class(_)))
+}
+
+/// The text at an index is this one.
+pub(crate) fn is_text(pool: &Pool, index: u16, text: &[u8]) -> bool
+    ensures { result ≡ is_named text.now (utf8_at pool.now index) }
+{
+    match pool.utf8(index) {
+        Some(found) => found == text,
+        None => false,
     }
+}
 
-    /// The entry at an index is a class.
-    pub(crate) fn is_class(&self, index: u16) -> bool
-        ensures { result ≡ is_class_at self.now index }
-    {
-        matches!(self.get(index), Some(Const::Class(_)))
+/// The texts at two indexes are the same.
+pub(crate) fn is_same_text(pool: &Pool, first: u16, second: u16) -> bool
+    ensures { result ≡ is_same_text (utf8_at pool.now first) (utf8_at pool.now second) }
+{
+    match pool.utf8(first) {
+        Some(text) => is_text(pool, second, text),
+        None => false,
     }
+}
 
-    /// The entry at an index is a name and type.
-    pub(crate) fn is_name_and_type(&self, index: u16) -> bool
-        ensures { result ≡ is_name_and_type_at self.now index }
-    {
-        matches!(self.get(index), Some(Const::NameAndType(_, _)))
-    }
-
-    /// The text at an index is this one.
-    pub(crate) fn is_text(&self, index: u16, text: &[u8]) -> bool
-        ensures { result ≡ is_named text.now (utf8_at self.now index) }
-    {
-        match self.utf8(index) {
-            Some(found) => found == text,
-            None => false,
-        }
-    }
-
-    /// The name of the class at an index is this one.
-    pub(crate) fn is_class_named(&self, index: u16, name: &[u8]) -> bool
-        ensures { result ≡ is_named name.now (class_name_at self.now index) }
-    {
-        match self.class_name(index) {
-            Some(found) => found == name,
-            None => false,
-        }
-    }
-
-    /// The name of the class at an index is no array's, and not the library's own.
-    pub(crate) fn has_own_name(&self, index: u16) -> bool
-        ensures { result ≡ is_own_name (class_name_at self.now index) }
-    {
-        match self.class_name(index) {
-            Some(name) => !is_array_name(name) && !is_reserved(name),
-            None => false,
-        }
+/// The text at an index begins as only the names of constructors and initialisers do (JVMS 2.9).
+pub(crate) fn is_special_name(pool: &Pool, index: u16) -> bool
+    ensures { result ≡ is_special_name (utf8_at pool.now index) }
+{
+    match pool.utf8(index) {
+        Some(name) => name.starts_with(b"<"),
+        None => false,
     }
 }
 
@@ -68,9 +57,12 @@ fn is_array_name(name: &[u8]) -> bool
     name.starts_with(b"[")
 }
 
-/// The name is one of the library's own.
-fn is_reserved(name: &[u8]) -> bool
-    ensures { result ≡ is_reserved name.now }
+/// The entry at an index is a class and no array (JVMS 4.1).
+pub(crate) fn names_class(pool: &Pool, index: u16) -> bool
+    ensures { result ≡ names_class pool.now index }
 {
-    name.starts_with(b"java/") || name.starts_with(b"mote/")
+    match pool.class_name(index) {
+        Some(name) => !is_array_name(name),
+        None => false,
+    }
 }

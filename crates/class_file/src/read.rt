@@ -1,119 +1,194 @@
-ghost use Rattle.std.specs.Prelude.{◌≡◌, ◌≢◌, ◌↔◌, Ok, take, IfOk, IsErrOf, ◌&&◌, not};
+//! The class as a whole (JVMS 4.1).
+
+ghost use Rattle.std.specs.Prelude.{◌≡◌, ◌⊎◌, [], Ok, Err, IfOk, IfErr, length, take};
 ghost use Rattle.std.specs.Str.{bytes_eq};
 ghost use Rattle.class_file.specs.Layout.{magic};
-ghost use Rattle.class_file.specs.OneMain.{IsOneMain};
-ghost use Rattle.class_file.specs.Relation.{is_final, is_interface, is_abstract, are_class_flags};
-ghost use Rattle.class_file.specs.Reading.{Gives, version_at, is_plain_class, counts_at, end_at, body_of, class_of};
+ghost use Rattle.class_file.specs.Relation.{IsClassFile};
+ghost use Rattle.class_file.specs.Refused.{IsRefused};
+ghost use Rattle.class_file.specs.Reading.{Gives, steps_at, one_more};
+ghost use Rattle.class_file.specs.ReadingClass.{capped, version_at, of_pool, pool_at, class_flags_at, class_index_at, interfaces_at, class_head_at, members_at, body_of, class_of};
 ghost use Rattle.class_file.specs.declared.record.ClassFile.{ClassFile as Record};
+ghost use Rattle.class_file.specs.declared.refusal.ReadRefusal.{ReadRefusal as Refusal};
+ghost use Rattle.class_file.specs.declared.refusal.ReadRefusal.TheVariants.{Memory};
 
-use crate::entry::pool_at;
-use crate::field::{expect_at, pair_at, u2_at};
-use crate::member::main_at;
-use crate::pool::Pool;
-use crate::record::ClassFile;
+use crate::attribute::skip_all_at;
+use crate::class::ClassHead;
+use crate::field::u2_at;
+use crate::flags::are_class_flags;
+use crate::member::{fields_at, methods_at};
+use crate::names::names_class;
+use crate::record::{ClassFile, Member};
 use crate::refusal::ReadRefusal;
+use class_pool::{Pool, PoolRefusal, read_pool};
 use item_list::Items;
 use std::alloc::Global;
 
+/// How many bytes a class file may have.
+const LARGEST: usize = 1_048_576;
+
+/// A length in its field, or the field's greatest number.
+fn capped(length: usize) -> u32
+    ensures { result ≡ capped length }
+{
+    length.min(0xffff_ffff) as u32
+}
+
 /// The version, minor and major: 45 to 52.
-#[tactic(auto, unfolding(crate::specs::Reading::version_at))]
+#[tactic(auto, unfolding(crate::specs::ReadingClass::version_at))]
 fn version_at(bytes: &[u8]) -> Result<((u16, u16), &[u8]), ReadRefusal>
     ensures { Gives (λ x. (x.0, x.1.now)) result (version_at bytes.now) }
 {
-    let ((minor, major), rest) = pair_at(bytes)?;
+    let (minor, rest) = u2_at(bytes)?;
+    let (major, rest) = u2_at(rest)?;
     if major < 45 || major > 52 {
-        return Err(ReadRefusal::Unbuilt);
+        return Err(ReadRefusal::Version { major });
     }
     Ok(((minor, major), rest))
 }
 
-/// The flags have ACC_FINAL (JVMS table 4.1-A).
-fn is_final(flags: u16) -> bool
-    ensures { result ≡ is_final flags }
+/// Why a pool is none, as the whole class says it.
+fn of_pool(why: PoolRefusal) -> ReadRefusal
+    ensures { result ≡ of_pool why }
 {
-    flags & 0x0010 != 0
-}
-
-/// The flags have ACC_INTERFACE.
-fn is_interface(flags: u16) -> bool
-    ensures { result ≡ is_interface flags }
-{
-    flags & 0x0200 != 0
-}
-
-/// The flags have ACC_ABSTRACT.
-fn is_abstract(flags: u16) -> bool
-    ensures { result ≡ is_abstract flags }
-{
-    flags & 0x0400 != 0
-}
-
-/// The flags go together, and are no interface's.
-fn are_plain_flags(flags: u16) -> bool
-    ensures { result ≡ (are_class_flags flags && not (is_interface flags)) }
-{
-    !is_interface(flags) && !(is_final(flags) && is_abstract(flags))
-}
-
-/// The class is below Object, and no interface.
-fn is_plain_class(pool: &Pool, flags: u16, this_class: u16, super_class: u16) -> bool
-    ensures { result ≡ is_plain_class pool.now flags this_class super_class }
-{
-    are_plain_flags(flags)
-        && pool.has_own_name(this_class)
-        && pool.is_class_named(super_class, b"java/lang/Object")
-}
-
-/// The counts of interfaces, fields and methods: none, none, and one.
-#[tactic(auto, unfolding(crate::specs::Reading::counts_at))]
-fn counts_at(bytes: &[u8]) -> Result<&[u8], ReadRefusal>
-    ensures { Gives (λ x. x.now) result (counts_at bytes.now) }
-{
-    let rest = expect_at(0, bytes)?;
-    let rest = expect_at(0, rest)?;
-    expect_at(1, rest)
-}
-
-/// No attribute, and no byte more.
-#[tactic(auto, unfolding(crate::specs::Reading::end_at))]
-fn end_at(bytes: &[u8]) -> Result<&[u8], ReadRefusal>
-    ensures { Gives (λ x. x.now) result (end_at bytes.now) }
-{
-    let rest = expect_at(0, bytes)?;
-    if !rest.is_empty() {
-        return Err(ReadRefusal::Unbuilt);
+    match why {
+        PoolRefusal::Truncated => ReadRefusal::Truncated,
+        PoolRefusal::BadTag { index } => ReadRefusal::BadPool { index },
+        PoolRefusal::BadIndex { index } => ReadRefusal::BadPool { index },
+        PoolRefusal::BadUtf8 { index } => ReadRefusal::BadPool { index },
+        PoolRefusal::Memory => ReadRefusal::Memory,
     }
-    Ok(rest)
+}
+
+/// The constant pool, with its count.
+#[tactic(auto, unfolding(crate::specs::ReadingClass::pool_at))]
+fn pool_at(alloc: Global, bytes: &[u8]) -> Result<(Pool, &[u8]), ReadRefusal>
+    ensures { Gives (λ x. (x.0, x.1.now)) result (pool_at bytes.now) }
+{
+    match read_pool(alloc, bytes, 0) {
+        Ok((pool, behind)) => Ok((pool, &bytes[behind..])),
+        Err(why) => Err(of_pool(why)),
+    }
+}
+
+/// The flags of the class.
+#[tactic(auto, unfolding(crate::specs::ReadingClass::class_flags_at))]
+fn class_flags_at(bytes: &[u8]) -> Result<(u16, &[u8]), ReadRefusal>
+    ensures { Gives (λ x. (x.0, x.1.now)) result (class_flags_at bytes.now) }
+{
+    let (flags, rest) = u2_at(bytes)?;
+    if !are_class_flags(flags) {
+        return Err(ReadRefusal::BadShape);
+    }
+    Ok((flags, rest))
+}
+
+/// The index of a class that is no array.
+#[tactic(auto, unfolding(crate::specs::ReadingClass::class_index_at))]
+fn class_index_at<'a>(pool: &Pool, bytes: &'a [u8]) -> Result<(u16, &'a [u8]), ReadRefusal>
+    ensures { Gives (λ x. (x.0, x.1.now)) result (class_index_at pool.now bytes.now) }
+{
+    let (index, rest) = u2_at(bytes)?;
+    if !names_class(pool, index) {
+        return Err(ReadRefusal::BadShape);
+    }
+    Ok((index, rest))
+}
+
+/// So many interfaces.
+fn interface_list<'a>(
+    alloc: Global,
+    pool: &Pool,
+    count: u16,
+    bytes: &'a [u8],
+) -> Result<(Vec<u16>, &'a [u8]), ReadRefusal>
+    ensures { Gives (λ x. (x.0.items, x.1.now)) result (steps_at (one_more (λ earlier rest. class_index_at pool.now rest)) [] count bytes.now) }
+{
+    let mut interfaces = Vec::new(alloc);
+    let mut rest = bytes;
+    for _ in 0..count {
+        let (interface, after) = class_index_at(pool, rest)?;
+        interfaces.push(interface)?;
+        rest = after;
+    }
+    Ok((interfaces, rest))
+}
+
+/// The interfaces.
+#[tactic(auto, unfolding(crate::specs::ReadingClass::interfaces_at, crate::specs::Reading::counted_at))]
+fn interfaces_at<'a>(
+    alloc: Global,
+    pool: &Pool,
+    bytes: &'a [u8],
+) -> Result<(Items<u16>, &'a [u8]), ReadRefusal>
+    ensures { Gives (λ x. (x.0, x.1.now)) result (interfaces_at pool.now bytes.now) }
+{
+    let (count, rest) = u2_at(bytes)?;
+    let (interfaces, rest) = interface_list(alloc, pool, count, rest)?;
+    Ok((Items::from_vec(interfaces), rest))
+}
+
+/// What stands between the pool and the fields.
+#[tactic(auto, unfolding(crate::specs::ReadingClass::class_head_at))]
+fn class_head_at<'a>(
+    alloc: Global,
+    pool: &Pool,
+    bytes: &'a [u8],
+) -> Result<(ClassHead, &'a [u8]), ReadRefusal>
+    ensures { Gives (λ x. (x.0, x.1.now)) result (class_head_at pool.now bytes.now) }
+{
+    let (flags, rest) = class_flags_at(bytes)?;
+    let (this_class, rest) = class_index_at(pool, rest)?;
+    let (super_class, rest) = class_index_at(pool, rest)?;
+    let (interfaces, rest) = interfaces_at(alloc, pool, rest)?;
+    let head = ClassHead {
+        flags,
+        this_class,
+        super_class,
+        interfaces,
+    };
+    Ok((head, rest))
+}
+
+/// Fields and methods, and the attributes of the class, which are skipped.
+#[tactic(auto, unfolding(crate::specs::ReadingClass::members_at))]
+fn members_at<'a>(
+    alloc: Global,
+    class_flags: u16,
+    pool: &Pool,
+    bytes: &'a [u8],
+) -> Result<((Items<Member>, Items<Member>), &'a [u8]), ReadRefusal>
+    ensures { Gives (λ x. (x.0, x.1.now)) result (members_at class_flags pool.now bytes.now) }
+{
+    let (fields, rest) = fields_at(alloc, class_flags, pool, bytes)?;
+    let (methods, rest) = methods_at(alloc, class_flags, pool, rest)?;
+    let rest = skip_all_at(pool, rest)?;
+    Ok(((fields, methods), rest))
 }
 
 /// What stands behind the magic.
-#[tactic(auto, unfolding(crate::specs::Reading::body_of))]
+#[tactic(auto, unfolding(crate::specs::ReadingClass::body_of))]
 fn body_of(alloc: Global, bytes: &[u8]) -> Result<ClassFile, ReadRefusal>
     ensures { Gives (λ x. x) result (body_of bytes.now) }
 {
     let ((minor, major), rest) = version_at(bytes)?;
     let (pool, rest) = pool_at(alloc, rest)?;
-    let (flags, rest) = u2_at(rest)?;
-    let (this_class, rest) = u2_at(rest)?;
-    let (super_class, rest) = u2_at(rest)?;
-    let rest = counts_at(rest)?;
-    let (main, rest) = main_at(alloc, &pool, rest)?;
-    end_at(rest)?;
-    if !is_plain_class(&pool, flags, this_class, super_class) {
-        return Err(ReadRefusal::Unbuilt);
+    let (head, rest) = class_head_at(alloc, &pool, rest)?;
+    let ((fields, methods), rest) = members_at(alloc, head.flags, &pool, rest)?;
+    if !rest.is_empty() {
+        return Err(ReadRefusal::TrailingBytes {
+            count: capped(rest.len()),
+        });
     }
-    let mut methods = Vec::new(alloc);
-    methods.push(main)?;
     Ok(ClassFile {
         minor,
         major,
         pool,
-        flags,
-        this_class,
-        super_class,
-        interfaces: Items::empty(alloc),
-        fields: Items::empty(alloc),
-        methods: Items::from_vec(methods),
+        flags: head.flags,
+        this_class: head.this_class,
+        super_class: head.super_class,
+        interfaces: head.interfaces,
+        fields,
+        methods,
     })
 }
 
@@ -124,25 +199,41 @@ fn has_magic(bytes: &[u8]) -> bool
     bytes.starts_with(b"\xca\xfe\xba\xbe")
 }
 
-/// Reads the bytes of a class file (JVMS chapter 4) of one main: one class below Object whose one
-/// method is `public static main()V`, whatever its code is. All bytes belong to the file.
-pub fn read_class(alloc: Global, bytes: &[u8]) -> Result<ClassFile, ReadRefusal>
-    // What is read is a class file of one main, with this record.
-    ensures found { IfOk result (λ file. IsOneMain bytes.now file) }
-
-    // A class file of one main is read, unless memory runs out.
-    ensures only { (file : Record) → IsOneMain bytes.now file → Gives (λ x. x) result (Ok file) }
-
-    // Other bytes are told apart by their first four.
-    ensures not_class { IsErrOf result ReadRefusal.NotClass ↔ (take 4 bytes.now ≢ magic) }
-    ensures unbuilt { IsErrOf result ReadRefusal.Unbuilt
-        → (take 4 bytes.now ≡ magic) × ((file : Record) → IsOneMain bytes.now file → ⊥) }
-
-    // Which refusal it is, or which record.
-    ensures exact { Gives (λ x. x) result (class_of bytes.now) }
+/// The record, or the first fault.
+#[tactic(auto, unfolding(crate::specs::ReadingClass::class_of))]
+fn class_of(alloc: Global, bytes: &[u8]) -> Result<ClassFile, ReadRefusal>
+    ensures { Gives (λ x. x) result (class_of bytes.now) }
 {
+    if bytes.len() > LARGEST {
+        return Err(ReadRefusal::TooLarge {
+            length: capped(bytes.len()),
+        });
+    }
     if !has_magic(bytes) {
         return Err(ReadRefusal::NotClass);
     }
     body_of(alloc, &bytes[4..])
+}
+
+/// Reads the bytes of a class file (JVMS chapter 4) of version 45 to 52. All bytes belong to the file.
+/// Attributes other than `Code` and `ConstantValue` are skipped. A refusal is that of the first place
+/// that is wrong, in the order of the bytes.
+pub fn read_class(alloc: Global, bytes: &[u8]) -> Result<ClassFile, ReadRefusal>
+    // What is read is a class file with this record.
+    ensures found { IfOk result (λ file. IsClassFile bytes.now file) }
+
+    // A class file is read, unless memory runs out.
+    ensures only { (file : Record) → IsClassFile bytes.now file → Gives (λ x. x) result (Ok file) }
+
+    // Bytes are the class file of at most one record.
+    ensures one_record { (first second : Record) → IsClassFile bytes.now first → IsClassFile bytes.now second → first ≡ second }
+
+    // Other bytes are refused for what is wrong first, unless memory runs out.
+    ensures refused { IfErr result (λ why. (why ≡ Memory) ⊎ IsRefused bytes.now why) }
+    ensures refused_only { (why : Refusal) → IsRefused bytes.now why → Gives (λ x. x) result (Err why) }
+
+    // Which record it is, or which refusal.
+    ensures exact { Gives (λ x. x) result (class_of bytes.now) }
+{
+    class_of(alloc, bytes)
 }

@@ -1,4 +1,4 @@
-use crate::pool::{Pool, Text};
+use class_pool::{Pool, Text};
 use item_list::Items;
 
 /// A class file (JVMS 4.1) without the attributes that are skipped: all but `Code` and

@@ -1,33 +1,23 @@
 //! Class files by hand (JVMS chapter 4): what is read, and what is refused.
 
 use super::*;
+use crate::samples::{HI, RING};
 use std::alloc::{AllocError, Global};
 use std::test::*;
 
-/// Writes `Hi`: `public static void main() { mote.Console.write('H'); mote.Console.write('i'); }`.
-/// The pool begins at 10, what stands behind it at 103, main at 115, its attribute at 123, and the
-/// code at 137.
-const HI: [u8; 154] = [
-    0xca, 0xfe, 0xba, 0xbe, 0x00, 0x00, 0x00, 0x34, 0x00, 0x0e, 0x01, 0x00, 0x02, 0x48, 0x69, 0x07,
-    0x00, 0x01, 0x01, 0x00, 0x10, 0x6a, 0x61, 0x76, 0x61, 0x2f, 0x6c, 0x61, 0x6e, 0x67, 0x2f, 0x4f,
-    0x62, 0x6a, 0x65, 0x63, 0x74, 0x07, 0x00, 0x03, 0x01, 0x00, 0x0c, 0x6d, 0x6f, 0x74, 0x65, 0x2f,
-    0x43, 0x6f, 0x6e, 0x73, 0x6f, 0x6c, 0x65, 0x07, 0x00, 0x05, 0x01, 0x00, 0x05, 0x77, 0x72, 0x69,
-    0x74, 0x65, 0x01, 0x00, 0x04, 0x28, 0x49, 0x29, 0x56, 0x0c, 0x00, 0x07, 0x00, 0x08, 0x0a, 0x00,
-    0x06, 0x00, 0x09, 0x01, 0x00, 0x04, 0x6d, 0x61, 0x69, 0x6e, 0x01, 0x00, 0x03, 0x28, 0x29, 0x56,
-    0x01, 0x00, 0x04, 0x43, 0x6f, 0x64, 0x65, 0x00, 0x21, 0x00, 0x02, 0x00, 0x04, 0x00, 0x00, 0x00,
-    0x00, 0x00, 0x01, 0x00, 0x09, 0x00, 0x0b, 0x00, 0x0c, 0x00, 0x01, 0x00, 0x0d, 0x00, 0x00, 0x00,
-    0x17, 0x00, 0x01, 0x00, 0x00, 0x00, 0x00, 0x00, 0x0b, 0x10, 0x48, 0xb8, 0x00, 0x0a, 0x10, 0x69,
-    0xb8, 0x00, 0x0a, 0xb1, 0x00, 0x00, 0x00, 0x00, 0x00, 0x00,
-];
+/// So many times 256 bytes 0.
+fn zeros(alloc: Global, blocks: usize) -> Result<Vec<u8>, AllocError> {
+    let mut bytes = Vec::new(alloc);
+    for _ in 0..blocks {
+        bytes.extend_from_slice(&[0; 256])?;
+    }
+    Ok(bytes)
+}
 
-/// The file `HI` with other code, and with the whole number -42 as entry 14.
+/// The file `HI` with other code.
 fn with_code(alloc: Global, code: &[u8]) -> Result<Vec<u8>, AllocError> {
     let size = code.len().min(70_000) as u32;
-    let mut bytes = Vec::from_slice(alloc, &HI[..9])?;
-    bytes.push(15)?;
-    bytes.extend_from_slice(&HI[10..103])?;
-    bytes.extend_from_slice(&[3, 0xff, 0xff, 0xff, 0xd6])?;
-    bytes.extend_from_slice(&HI[103..125])?;
+    let mut bytes = Vec::from_slice(alloc, &HI[..125])?;
     bytes.extend_from_slice(&(12 + size).to_be_bytes())?;
     bytes.extend_from_slice(&HI[129..133])?;
     bytes.extend_from_slice(&size.to_be_bytes())?;
@@ -36,111 +26,78 @@ fn with_code(alloc: Global, code: &[u8]) -> Result<Vec<u8>, AllocError> {
     Ok(bytes)
 }
 
-/// Code of 65,280 bytes, and then a tail.
-fn long_code(alloc: Global, tail: &[u8]) -> Result<Vec<u8>, AllocError> {
-    let mut code = Vec::new(alloc);
-    for _ in 0..255 {
-        code.extend_from_slice(&[0; 256])?;
-    }
-    code.extend_from_slice(tail)?;
-    Ok(code)
-}
-
-#[test]
-fn reads_a_class(rt: HostRuntime) -> Result<(), Fail> {
-    let class = read_class(rt.alloc(), &HI)
-        .ok()
-        .ok_or("the bytes are a class file")?;
-    assert_eq!(rt; class.major, 52);
-    assert_eq!(rt; class.pool.count(), 14);
-    assert!(rt; class.pool.get(0).is_none());
-    assert!(rt; class.pool.get(14).is_none());
-    let is_hi = match class.pool.get(1) {
-        Some(Const::Utf8(text)) => text.as_slice() == b"Hi".as_slice(),
-        _ => false,
-    };
-    assert!(rt; is_hi);
-    assert_eq!(rt; class.methods.len(), 1);
-    for method in class.methods.as_slice() {
-        let code = method.code.as_ref().ok_or("main has code")?;
-        assert_eq!(rt; code.code.len(), 11);
-        assert_eq!(rt; code.max_stack, 1);
-        assert_eq!(rt; code.max_locals, 0);
-    }
-    Ok(())
-}
-
 #[test]
 fn refuses_each_part_of_a_class(rt: HostRuntime) -> Result<(), Fail> {
     for len in 0..154 {
         let want = if len < 4 {
             ReadRefusal::NotClass
         } else {
-            ReadRefusal::Unbuilt
+            ReadRefusal::Truncated
         };
         let got = read_class(rt.alloc(), &HI[..len]).err();
         assert_eq!(rt; got, Some(want), "at {len}");
     }
+    assert!(rt; read_class(rt.alloc(), &HI).is_ok());
     let mut more = Vec::from_slice(rt.alloc(), &HI)?;
     more.push(0)?;
     assert_eq!(rt;
         read_class(rt.alloc(), more.as_slice()).err(),
-        Some(ReadRefusal::Unbuilt)
+        Some(ReadRefusal::TrailingBytes { count: 1 })
     );
     Ok(())
 }
 
 #[test]
-fn reads_by_each_byte(rt: HostRuntime) {
+fn answers_each_change_of_one_byte(rt: HostRuntime) {
+    for place in 0..154 {
+        for change in [1, 2, 4, 8, 0x10, 0x20, 0x40, 0x80, 0xff] {
+            let mut bytes = HI;
+            bytes[place] ^= change;
+            let got = read_class(rt.alloc(), &bytes).err();
+            assert!(rt; got != Some(ReadRefusal::Memory), "at {place}");
+        }
+    }
+}
+
+#[test]
+fn names_the_first_fault_of_the_front(rt: HostRuntime) {
+    let bad = |index| Some(ReadRefusal::BadPool { index });
     let edits = [
         ("first version", 7, 45, None),
-        ("final class", 104, 0x31, None),
-        ("abstract class", 103, 0x04, None),
-        ("no instruction in the code", 137, 0xff, None),
+        ("any minor version", 5, 3, None),
+        (
+            "version 44",
+            7,
+            44,
+            Some(ReadRefusal::Version { major: 44 }),
+        ),
+        (
+            "version 53",
+            7,
+            53,
+            Some(ReadRefusal::Version { major: 53 }),
+        ),
         ("other magic", 3, 0xbf, Some(ReadRefusal::NotClass)),
-        ("version 44", 7, 44, Some(ReadRefusal::Unbuilt)),
-        ("version 53", 7, 53, Some(ReadRefusal::Unbuilt)),
-        ("no pool", 9, 0, Some(ReadRefusal::Unbuilt)),
-        ("byte 0 in a text", 13, 0, Some(ReadRefusal::Unbuilt)),
+        ("no pool", 9, 0, bad(0)),
+        ("byte 0 in a text", 13, 0, bad(1)),
+        ("half a unit in a text", 14, 0xc2, bad(1)),
+        ("unknown tag", 15, 2, bad(2)),
+        ("a class that names no text", 17, 2, bad(2)),
+        ("a long as the last entry", 96, 5, bad(13)),
         (
-            "half a unit in a text",
-            14,
-            0xc2,
-            Some(ReadRefusal::Unbuilt),
+            "a long in front of the last entry",
+            90,
+            5,
+            Some(ReadRefusal::BadShape),
         ),
-        ("array name", 13, 0x5b, Some(ReadRefusal::Unbuilt)),
-        ("string entry", 15, 8, Some(ReadRefusal::Unbuilt)),
-        ("class without a name", 17, 2, Some(ReadRefusal::Unbuilt)),
+        ("a reference that names a text", 82, 5, bad(10)),
+        ("a name and type that names a class", 77, 2, bad(9)),
         (
-            "attribute of another name",
-            99,
-            0x58,
-            Some(ReadRefusal::Unbuilt),
+            "an interface that is not abstract",
+            103,
+            0x02,
+            Some(ReadRefusal::BadShape),
         ),
-        ("interface", 103, 0x06, Some(ReadRefusal::Unbuilt)),
-        ("reserved name", 106, 6, Some(ReadRefusal::Unbuilt)),
-        (
-            "super class is not Object",
-            108,
-            6,
-            Some(ReadRefusal::Unbuilt),
-        ),
-        ("interface count", 110, 1, Some(ReadRefusal::Unbuilt)),
-        ("field count", 112, 1, Some(ReadRefusal::Unbuilt)),
-        ("no method", 114, 0, Some(ReadRefusal::Unbuilt)),
-        ("two methods", 114, 2, Some(ReadRefusal::Unbuilt)),
-        ("main is not public", 116, 8, Some(ReadRefusal::Unbuilt)),
-        ("main has another name", 118, 7, Some(ReadRefusal::Unbuilt)),
-        (
-            "main has another descriptor",
-            120,
-            8,
-            Some(ReadRefusal::Unbuilt),
-        ),
-        ("attribute length", 128, 0x18, Some(ReadRefusal::Unbuilt)),
-        ("exception table", 149, 1, Some(ReadRefusal::Unbuilt)),
-        ("attribute of Code", 151, 1, Some(ReadRefusal::Unbuilt)),
-        ("class attribute", 153, 1, Some(ReadRefusal::Unbuilt)),
     ];
     for (name, place, byte, want) in edits {
         let mut bytes = HI;
@@ -151,17 +108,24 @@ fn reads_by_each_byte(rt: HostRuntime) {
 }
 
 #[test]
-fn reads_whatever_the_code_is(rt: HostRuntime) -> Result<(), Fail> {
-    let codes: [(&str, &[u8]); 4] = [
-        ("one return", &[0xb1]),
-        ("a jump to itself", &[0xa7, 0x00, 0x00]),
-        ("no operand to pop", &[0x57, 0xb1]),
-        ("no instruction", &[0xff]),
-    ];
-    for (name, code) in codes {
-        let bytes = with_code(rt.alloc(), code)?;
-        assert!(rt; read_class(rt.alloc(), bytes.as_slice()).is_ok(), "{name}");
-    }
+fn keeps_the_size_of_a_file(rt: HostRuntime) -> Result<(), Fail> {
+    let mut bytes = zeros(rt.alloc(), 4096)?;
+    assert_eq!(rt;
+        read_class(rt.alloc(), bytes.as_slice()).err(),
+        Some(ReadRefusal::NotClass)
+    );
+    bytes.push(0)?;
+    assert_eq!(rt;
+        read_class(rt.alloc(), bytes.as_slice()).err(),
+        Some(ReadRefusal::TooLarge { length: 1_048_577 })
+    );
+    let mut behind = Vec::from_slice(rt.alloc(), &HI)?;
+    let tail = zeros(rt.alloc(), 4000)?;
+    behind.extend_from_slice(tail.as_slice())?;
+    assert_eq!(rt;
+        read_class(rt.alloc(), behind.as_slice()).err(),
+        Some(ReadRefusal::TrailingBytes { count: 1_024_000 })
+    );
     Ok(())
 }
 
@@ -170,51 +134,109 @@ fn keeps_the_size_of_code(rt: HostRuntime) -> Result<(), Fail> {
     let none = with_code(rt.alloc(), &[])?;
     assert_eq!(rt;
         read_class(rt.alloc(), none.as_slice()).err(),
-        Some(ReadRefusal::Unbuilt)
+        Some(ReadRefusal::BadShape)
     );
-    let longest = long_code(rt.alloc(), &[0; 255])?;
-    let bytes = with_code(rt.alloc(), longest.as_slice())?;
-    assert!(rt; read_class(rt.alloc(), bytes.as_slice()).is_ok());
-    let one_more = long_code(rt.alloc(), &[0; 256])?;
-    let bytes = with_code(rt.alloc(), one_more.as_slice())?;
+    let mut code = zeros(rt.alloc(), 255)?;
+    code.extend_from_slice(&[0; 255])?;
+    let longest = with_code(rt.alloc(), code.as_slice())?;
+    assert!(rt; read_class(rt.alloc(), longest.as_slice()).is_ok());
+    code.push(0)?;
+    let one_more = with_code(rt.alloc(), code.as_slice())?;
     assert_eq!(rt;
-        read_class(rt.alloc(), bytes.as_slice()).err(),
-        Some(ReadRefusal::Unbuilt)
+        read_class(rt.alloc(), one_more.as_slice()).err(),
+        Some(ReadRefusal::BadShape)
     );
     Ok(())
 }
 
+fn text_is(class: &ClassFile, index: u16, text: &[u8]) -> bool {
+    match class.pool.utf8(index) {
+        Some(found) => found == text,
+        None => false,
+    }
+}
+
 #[test]
-fn names_what_the_entries_name(rt: HostRuntime) -> Result<(), Fail> {
-    let bytes = with_code(rt.alloc(), &[0xb1])?;
-    let class = read_class(rt.alloc(), bytes.as_slice())
+fn reads_what_javac_writes(rt: HostRuntime) -> Result<(), Fail> {
+    let class = read_class(rt.alloc(), &RING)
         .ok()
         .ok_or("the bytes are a class file")?;
-    let write = MemberName {
-        class: b"mote/Console",
-        name: b"write",
-        descriptor: b"(I)V",
-    };
-    for index in 0..16 {
-        let is_call = index == 10;
+    assert_eq!(rt; (class.minor, class.major, class.flags), (0, 52, 0x21));
+    assert_eq!(rt; class.pool.count(), 38);
+    assert_eq!(rt; class.pool.integer(28), Some(16));
+    assert_eq!(rt; (class.this_class, class.super_class), (7, 2));
+    assert!(rt; class.interfaces.as_slice() == [24].as_slice());
+    let fields: [(u16, &[u8], &[u8], Option<u16>); 3] = [
+        (0x18, b"SIZE", b"I", Some(28)),
+        (0, b"at", b"[S", None),
+        (2, b"n", b"I", None),
+    ];
+    assert_eq!(rt; class.fields.len(), 3);
+    for (field, (flags, name, descriptor, constant)) in class
+        .fields
+        .as_slice()
+        .iter()
+        .zip(fields.iter())
+    {
+        assert_eq!(rt; field.flags, *flags);
+        assert!(rt; text_is(&class, field.name, name));
+        assert!(rt; text_is(&class, field.descriptor, descriptor));
+        assert_eq!(rt; field.constant, *constant);
+        assert!(rt; field.code.is_none());
+    }
+    let methods: [(u16, &[u8], &[u8], u16, u16, usize, usize); 4] = [
+        (1, b"<init>", b"()V", 2, 1, 13, 0),
+        (0, b"put", b"(I)V", 3, 2, 40, 0),
+        (0, b"safe", b"(I)Z", 2, 3, 10, 1),
+        (1, b"run", b"()V", 0, 1, 1, 0),
+    ];
+    assert_eq!(rt; class.methods.len(), 4);
+    for (method, (flags, name, descriptor, max_stack, max_locals, size, rows)) in class
+        .methods
+        .as_slice()
+        .iter()
+        .zip(methods.iter())
+    {
+        assert_eq!(rt; method.flags, *flags);
+        assert!(rt; text_is(&class, method.name, name));
+        assert!(rt; text_is(&class, method.descriptor, descriptor));
+        assert!(rt; method.constant.is_none());
+        let code = method.code.as_ref().ok_or("each method has code")?;
         assert_eq!(rt;
-            method_name(&class.pool, index),
-            is_call.then_some(write),
-            "{index}"
+            (code.max_stack, code.max_locals),
+            (*max_stack, *max_locals)
         );
-        let parts = name_and_type_in(&class.pool, index);
-        let is_pair = index == 9;
-        assert_eq!(rt;
-            parts,
-            is_pair.then_some((write.name, write.descriptor)),
-            "{index}"
-        );
-        let is_number = index == 14;
-        assert_eq!(rt;
-            class.pool.integer(index),
-            is_number.then_some(-42),
-            "{index}"
-        );
+        assert_eq!(rt; (code.code.len(), code.handlers.len()), (*size, *rows));
+        for row in code.handlers.as_slice() {
+            assert_eq!(rt;
+                (row.start, row.end, row.target, row.catch_type),
+                (0, 6, 7, 13)
+            );
+        }
+    }
+    assert!(rt; !is_one_main(&class));
+    Ok(())
+}
+
+#[test]
+fn tells_a_class_of_one_main(rt: HostRuntime) -> Result<(), Fail> {
+    let class = read_class(rt.alloc(), &HI)
+        .ok()
+        .ok_or("the bytes are a class file")?;
+    assert!(rt; is_one_main(&class));
+    let edits = [
+        ("an own superclass", 108, 6),
+        ("a reserved name", 106, 6),
+        ("main is not public", 116, 8),
+        ("main has another name", 118, 7),
+    ];
+    for (name, place, byte) in edits {
+        let mut bytes = HI;
+        assert!(rt; place < 154);
+        bytes[place] = byte;
+        if let Ok(class) = read_class(rt.alloc(), &bytes) {
+            assert!(rt; !is_one_main(&class), "{name}");
+        }
     }
     Ok(())
 }

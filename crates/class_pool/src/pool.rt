@@ -47,8 +47,8 @@ impl Model for Pool {
 impl Pool {
     ghost use Rattle.class_pool.specs.Pool.{entry_at, utf8_at, class_name_at, integer_at};
 
-    /// The pool with these places, the place of index 1 first.
-    pub(crate) fn from_places(places: Vec<Option<Const>>) -> Pool
+    /// The pool with these places, that of index 1 first.
+    pub fn from_places(places: Vec<Option<Const>>) -> Pool
         requires { length places.items < 65535 }
         ensures { result ≡ places.items }
     {
@@ -97,7 +97,7 @@ impl Pool {
     }
 
     /// The places, that of index 1 first.
-    pub(crate) fn places(&self) -> &[Option<Const>]
+    pub fn places(&self) -> &[Option<Const>]
         ensures value { result.now ≡ self.now }
         ensures count { length result.now < 65535 }
     {

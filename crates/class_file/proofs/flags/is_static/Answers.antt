@@ -1,0 +1,5 @@
+use Rattle.class_file.proofs.Bits.{flag_bit}
+use Rattle.class_file.proofs.flags.is_static.Goals as goal
+
+pub returns : goal.returns
+returns c = flag_bit c.args.flags 3

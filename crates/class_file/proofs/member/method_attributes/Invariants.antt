@@ -1,0 +1,8 @@
+use Rattle.std.proofs.Common.{◌≡◌, ◌-◌, None}
+use Rattle.class_file.specs.Reading.{steps_at}
+use Rattle.class_file.specs.ReadingMembers.{method_attribute_at}
+use Rattle.class_file.proofs.member.method_attributes.Given as goal
+
+-- what the rest gives is the whole
+abbrev pub invariant-loop : goal.invariant-loop
+invariant-loop l = steps_at (method_attribute_at l.pool l.is_abstract) l.found (l.count - l.counter) l.rest ≡ steps_at (method_attribute_at l.pool l.is_abstract) None l.count l.bytes

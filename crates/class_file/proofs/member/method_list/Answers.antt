@@ -1,0 +1,23 @@
+use Rattle.std.proofs.Common.{◌≡◌, ◌++◌, ◌∷◌, []}
+use Rattle.std.proofs.lemmas.Result.{err_from_is_err_and}
+use Rattle.class_file.specs.Reading.{steps_at, one_more}
+use Rattle.class_file.specs.ReadingMembers.{method_at}
+use Rattle.class_file.proofs.Loop.{item_goes_on, item_ends, is_done}
+use Rattle.class_file.proofs.member.method_list.Goals as goal
+
+pub returns-in_err-method : goal.returns-in_err-method
+returns-in_err-method c =
+    let item = method_at c.args.class_flags c.args.pool.now in
+    let p = err_from_is_err_and c.from_residual.result c.from_residual.ensures.1 in
+    rw (p.1, p.2) (item_ends c.in_err-method.field-0.0 item c.loop.methods.items c.args.count c.loop.counter c.loop.rest.now (steps_at (one_more item) [] c.args.count c.args.bytes.now) c.loop-test.true (rw c.as_slice.ensures.value at c.in_err-method.ensures) c.loop.invariant)
+
+pub loop-preserved : goal.loop-preserved
+loop-preserved c =
+    let item = method_at c.args.class_flags c.args.pool.now in
+    let pushed : c.push.new.self.items ≡ c.loop.methods.items ++ c.in_ok-method.method ∷ [] = c.in_ok-push.ensures.items in
+    rw pushed (item_goes_on item c.loop.methods.items c.args.count c.loop.counter c.loop.rest.now c.in_ok-method.method c.in_ok-method.after.now (steps_at (one_more item) [] c.args.count c.args.bytes.now) c.loop-test.true (rw c.as_slice.ensures.value at c.in_ok-method.ensures) c.loop.invariant)
+
+pub returns : goal.returns
+returns c =
+    let item = method_at c.args.class_flags c.args.pool.now in
+    is_done (one_more item) c.loop.methods.items c.args.count c.loop.counter c.loop.rest.now (steps_at (one_more item) [] c.args.count c.args.bytes.now) c.loop-test.false c.loop.invariant

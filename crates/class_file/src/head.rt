@@ -1,0 +1,7 @@
+/// What stands in front of the attributes of a field or a method (JVMS 4.5, 4.6).
+#[derive(Clone, Copy, Debug)]
+pub(crate) struct Head {
+    pub(crate) flags: u16,
+    pub(crate) name: u16,
+    pub(crate) descriptor: u16,
+}

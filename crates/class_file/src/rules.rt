@@ -1,0 +1,162 @@
+//! The rules of the flags, names and descriptors of fields and methods (JVMS 4.5, 4.6), as far as a
+//! member shows them in front of its attributes.
+
+ghost use Rattle.std.specs.Prelude.{◌≡◌};
+ghost use Rattle.class_file.specs.Rules.{is_same_member, is_constructor, is_initialiser, fits_interface_method, is_static_method, fits_abstract, fits_special_name, fits_constructor, fits_initialiser, places_of, argument_places, fits_places};
+ghost use Rattle.class_file.specs.ReadingMembers.{head_in, is_declared, is_field_head, is_method_head};
+
+use crate::flags::{
+    fits_interface_field, has_one_access, is_abstract, is_final, is_interface, is_native,
+    is_private, is_public, is_static,
+};
+use crate::head::Head;
+use crate::names::{is_same_text, is_special_name, is_text};
+use crate::record::Member;
+use class_pool::{Descriptor, Kind, Pool};
+
+/// What stands in front of the attributes of a member.
+fn head_in(member: &Member) -> Head
+    ensures { result ≡ head_in member.now }
+{
+    Head {
+        flags: member.flags,
+        name: member.name,
+        descriptor: member.descriptor,
+    }
+}
+
+/// Two members have the same name and the same descriptor.
+fn is_same_member(pool: &Pool, first: Head, second: Head) -> bool
+    ensures { result ≡ is_same_member pool.now first second }
+{
+    is_same_text(pool, first.name, second.name)
+        && is_same_text(pool, first.descriptor, second.descriptor)
+}
+
+/// A member of the same name and descriptor stands among the earlier ones.
+#[tactic(auto, unfolding(crate::specs::ReadingMembers::is_declared))]
+pub(crate) fn is_declared(pool: &Pool, earlier: &[Member], head: Head) -> bool
+    ensures { result ≡ is_declared pool.now earlier.now head }
+{
+    for member in earlier {
+        if is_same_member(pool, head_in(member), head) {
+            return true;
+        }
+    }
+    false
+}
+
+/// The flags of a field go together.
+pub(crate) fn is_field_head(class_flags: u16, head: Head) -> bool
+    ensures { result ≡ is_field_head class_flags head }
+{
+    has_one_access(head.flags) && fits_interface_field(class_flags, head.flags)
+}
+
+/// The method is `<init>`.
+fn is_constructor(pool: &Pool, head: Head) -> bool
+    ensures { result ≡ is_constructor pool.now head }
+{
+    is_text(pool, head.name, b"<init>")
+}
+
+/// The method is `<clinit>`.
+fn is_initialiser(pool: &Pool, head: Head) -> bool
+    ensures { result ≡ is_initialiser pool.now head }
+{
+    is_text(pool, head.name, b"<clinit>")
+}
+
+/// A method of an interface is public and abstract, unless it is `<clinit>`.
+fn fits_interface_method(class_flags: u16, pool: &Pool, head: Head) -> bool
+    ensures { result ≡ fits_interface_method class_flags pool.now head }
+{
+    !is_interface(class_flags)
+        || is_initialiser(pool, head)
+        || (is_public(head.flags) && is_abstract(head.flags))
+}
+
+/// The method has no `this`; `<clinit>` has none, whatever its flags.
+fn is_static_method(pool: &Pool, head: Head) -> bool
+    ensures { result ≡ is_static_method pool.now head }
+{
+    is_static(head.flags) || is_initialiser(pool, head)
+}
+
+/// An abstract method is not private, static or final.
+fn fits_abstract(pool: &Pool, head: Head) -> bool
+    ensures { result ≡ fits_abstract pool.now head }
+{
+    !is_abstract(head.flags)
+        || !(is_private(head.flags) || is_static_method(pool, head) || is_final(head.flags))
+}
+
+/// A name that begins with `<` is `<init>` or `<clinit>` (JVMS 2.9).
+fn fits_special_name(pool: &Pool, head: Head) -> bool
+    ensures { result ≡ fits_special_name pool.now head }
+{
+    !is_special_name(pool, head.name) || is_constructor(pool, head) || is_initialiser(pool, head)
+}
+
+/// `<init>` is not static or abstract, and has no result.
+fn fits_constructor(pool: &Pool, head: Head, descriptor: &Descriptor) -> bool
+    ensures { result ≡ fits_constructor pool.now head descriptor.now }
+{
+    !is_constructor(pool, head)
+        || (!is_static(head.flags) && !is_abstract(head.flags) && descriptor.result.is_none())
+}
+
+/// `<clinit>` has no parameters and no result.
+fn fits_initialiser(pool: &Pool, head: Head) -> bool
+    ensures { result ≡ fits_initialiser pool.now head }
+{
+    !is_initialiser(pool, head) || is_text(pool, head.descriptor, b"()V")
+}
+
+/// How many argument places a parameter takes (JVMS 4.3.3).
+fn places_of(kind: &Kind) -> u8
+    ensures { result ≡ places_of kind.now }
+{
+    match kind {
+        Kind::Long | Kind::Double => 2,
+        _ => 1,
+    }
+}
+
+/// The parameters, and `this` where there is one, take at most 255 argument places.
+fn fits_places(pool: &Pool, head: Head, descriptor: &Descriptor) -> bool
+    ensures { result ≡ fits_places pool.now head descriptor.now }
+{
+    let mut room = if is_static_method(pool, head) {
+        255
+    } else {
+        254
+    };
+    for kind in descriptor.params.as_slice() {
+        let places = places_of(kind);
+        if room < places {
+            return false;
+        }
+        room -= places;
+    }
+    true
+}
+
+/// The flags, the name and the descriptor of a method go together.
+pub(crate) fn is_method_head(
+    class_flags: u16,
+    pool: &Pool,
+    head: Head,
+    descriptor: &Descriptor,
+) -> bool
+    ensures { result ≡ is_method_head class_flags pool.now head descriptor.now }
+{
+    has_one_access(head.flags)
+        && fits_interface_method(class_flags, pool, head)
+        && !is_native(head.flags)
+        && fits_abstract(pool, head)
+        && fits_special_name(pool, head)
+        && fits_constructor(pool, head, descriptor)
+        && fits_initialiser(pool, head)
+        && fits_places(pool, head, descriptor)
+}
