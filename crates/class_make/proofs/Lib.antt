@@ -1,0 +1,9 @@
+pub mod Places
+pub mod Drafts
+pub mod Appended
+pub mod Names
+pub mod Bare
+pub mod Validity
+pub mod Pairs
+pub mod Tested
+pub mod Pieces

@@ -1,0 +1,4 @@
+pub mod Record
+pub mod Written
+pub mod Entries
+pub mod Draft

@@ -1,0 +1,136 @@
+//! The bytes of numbers, entries and rows (JVMS 4.1, 4.4, 4.7.3) are appended to others.
+
+ghost use Rattle.std.specs.Prelude.{◌≡◌, ◌+◌, ◌∷◌, ◌++◌, true, OnOk, IfOk};
+ghost use Rattle.std.specs.List.{flat_map};
+ghost use Rattle.class_pool.specs.Pool.{entry_bytes, place_bytes, pool_bytes};
+ghost use Rattle.class_file.specs.Layout.{u2, u4, handler_bytes};
+ghost use Rattle.class_make.specs.Written.{fits_text, fits_place, fits_places};
+
+use class_file::HandlerRow;
+use class_pool::{Const, Pool};
+use std::alloc::AllocError;
+
+/// Appends a number in two bytes.
+pub(crate) fn append_u2(out: &mut Vec<u8>, number: u16) -> Result<(), AllocError>
+    ensures { OnOk result (out.new.items ≡ out.old.items ++ u2 number) }
+{
+    out.extend_from_slice(&number.to_be_bytes())
+}
+
+/// Appends a number in four bytes.
+pub(crate) fn append_u4(out: &mut Vec<u8>, number: u32) -> Result<(), AllocError>
+    ensures { OnOk result (out.new.items ≡ out.old.items ++ u4 number) }
+{
+    out.extend_from_slice(&number.to_be_bytes())
+}
+
+/// Appends a tag and the parts behind it.
+fn append_tagged(out: &mut Vec<u8>, tag: u8, parts: &[u8]) -> Result<(), AllocError>
+    ensures { OnOk result (out.new.items ≡ out.old.items ++ tag ∷ parts.now) }
+{
+    out.push(tag)?;
+    out.extend_from_slice(parts)
+}
+
+/// Two numbers in two bytes each.
+fn pair_bytes(first: u16, second: u16) -> [u8; 4]
+    ensures { result ≡ u2 first ++ u2 second }
+{
+    let [a, b] = first.to_be_bytes();
+    let [c, d] = second.to_be_bytes();
+    [a, b, c, d]
+}
+
+/// Appends an entry of the constant pool (JVMS 4.4).
+fn append_entry(out: &mut Vec<u8>, entry: &Const) -> Result<(), AllocError>
+    requires { fits_text entry.now ≡ true }
+    ensures { OnOk result (out.new.items ≡ out.old.items ++ entry_bytes entry.now) }
+{
+    match entry {
+        Const::Utf8(text) => {
+            append_tagged(out, 1, &(text.len() as u16).to_be_bytes())?;
+            out.extend_from_slice(text.as_slice())
+        }
+        Const::Integer(value) => append_tagged(out, 3, &value.cast_unsigned().to_be_bytes()),
+        Const::Float(bits) => append_tagged(out, 4, &bits.to_be_bytes()),
+        Const::Long(bits) => append_tagged(out, 5, &bits.to_be_bytes()),
+        Const::Double(bits) => append_tagged(out, 6, &bits.to_be_bytes()),
+        Const::Class(name) => append_tagged(out, 7, &name.to_be_bytes()),
+        Const::String(text) => append_tagged(out, 8, &text.to_be_bytes()),
+        Const::Field(class, member) => append_tagged(out, 9, &pair_bytes(*class, *member)),
+        Const::Method(class, member) => append_tagged(out, 10, &pair_bytes(*class, *member)),
+        Const::InterfaceMethod(class, member) => {
+            append_tagged(out, 11, &pair_bytes(*class, *member))
+        }
+        Const::NameAndType(name, descriptor) => {
+            append_tagged(out, 12, &pair_bytes(*name, *descriptor))
+        }
+        Const::MethodHandle(kind, index) => {
+            let [a, b] = index.to_be_bytes();
+            append_tagged(out, 15, &[*kind, a, b])
+        }
+        Const::MethodType(descriptor) => append_tagged(out, 16, &descriptor.to_be_bytes()),
+        Const::InvokeDynamic(bootstrap, member) => {
+            append_tagged(out, 18, &pair_bytes(*bootstrap, *member))
+        }
+    }
+}
+
+/// Appends a place of the constant pool; one without an entry has no bytes.
+fn append_place(out: &mut Vec<u8>, place: &Option<Const>) -> Result<(), AllocError>
+    requires { fits_place place.now ≡ true }
+    ensures { OnOk result (out.new.items ≡ out.old.items ++ place_bytes place.now) }
+{
+    match place {
+        Some(entry) => append_entry(out, entry),
+        None => Ok(()),
+    }
+}
+
+fn append_places(out: &mut Vec<u8>, places: &[Option<Const>]) -> Result<(), AllocError>
+    requires { fits_places places.now ≡ true }
+    ensures { OnOk result (out.new.items ≡ out.old.items ++ flat_map place_bytes places.now) }
+{
+    for place in places {
+        append_place(out, place)?;
+    }
+    Ok(())
+}
+
+/// Appends a constant pool with its count (JVMS 4.1).
+pub(crate) fn append_pool(out: &mut Vec<u8>, pool: &Pool) -> Result<(), AllocError>
+    requires { fits_places pool.now ≡ true }
+    ensures { OnOk result (out.new.items ≡ out.old.items ++ pool_bytes pool.now) }
+{
+    append_u2(out, pool.count())?;
+    append_places(out, pool.places())
+}
+
+/// Appends numbers in two bytes each.
+pub(crate) fn append_numbers(out: &mut Vec<u8>, numbers: &[u16]) -> Result<(), AllocError>
+    ensures { OnOk result (out.new.items ≡ out.old.items ++ flat_map u2 numbers.now) }
+{
+    for number in numbers {
+        append_u2(out, *number)?;
+    }
+    Ok(())
+}
+
+/// Appends a row of an exception table (JVMS 4.7.3).
+fn append_row(out: &mut Vec<u8>, row: HandlerRow) -> Result<(), AllocError>
+    ensures { OnOk result (out.new.items ≡ out.old.items ++ handler_bytes row) }
+{
+    append_u2(out, row.start)?;
+    append_u2(out, row.end)?;
+    append_u2(out, row.target)?;
+    append_u2(out, row.catch_type)
+}
+
+pub(crate) fn append_rows(out: &mut Vec<u8>, rows: &[HandlerRow]) -> Result<(), AllocError>
+    ensures { OnOk result (out.new.items ≡ out.old.items ++ flat_map handler_bytes rows.now) }
+{
+    for row in rows {
+        append_row(out, *row)?;
+    }
+    Ok(())
+}
