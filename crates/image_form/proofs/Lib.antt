@@ -1,6 +1,11 @@
-pub mod Forms
-pub mod Fields
-pub mod Parts
+pub mod Items
+pub mod Unmatched
 pub mod Written
+pub mod Readers
+pub mod TypeParts
+pub mod MethodParts
+pub mod Matching
+pub mod ImageParts
 pub mod Whole
+pub mod SmallImage
 pub mod Refusals

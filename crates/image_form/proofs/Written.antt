@@ -1,36 +1,24 @@
--- What is written part by part is the spelling.
-use Rattle.std.proofs.Common.{◌≡◌, List, ℕ, [], ◌∷◌, ◌++◌, sym, ap, ◌∙◌, append_assoc}
-use Rattle.image_form.specs.declared.record.Image.{Image}
-use Rattle.image_form.specs.declared.record.ClassEntry.{ClassEntry}
-use Rattle.image_form.specs.declared.record.TypeEntry.{TypeEntry}
-use Rattle.image_form.specs.declared.record.TypeEntry.TheVariants.{Class}
-use Rattle.image_form.specs.declared.record.Method.{Method}
-use Rattle.image_form.specs.Format.{type_bytes, method_bytes, spelling}
-use Rattle.image_form.specs.SmallForm.{small_image, IsSmall}
-use Rattle.image_form.proofs.Parts.{header, counts, ending, spelling_parts}
+-- What was written, one part behind the other.
+use Rattle.std.proofs.Common.{◌≡◌, ℕ, ◌+◌, ◌<◌, List, [], ◌∷◌, ◌++◌, length, get_or, take, append_assoc, zero, suc, sym, ap, subst, ◌∙◌, arith}
+use Rattle.std.specs.List.{flat_map}
+use Rattle.std.proofs.lemmas.List.{flat_map_more, take_more}
+use Rattle.image_form.specs.Grammar.{EachBehind}
 
-abbrev types : List TypeEntry → List TypeEntry
-types list = list
+-- one more item is written
+pub written_at : {A : Type 0} (f : A → List ℕ) (old : List ℕ) (items : List A) (i : ℕ) (d : A) (now new : List ℕ) → i < length items → now ≡ old ++ flat_map f (take i items) → new ≡ now ++ f (get_or items i d) → new ≡ old ++ flat_map f (take (i + 1) items)
+written_at f old items i d now new lt before more =
+    more ∙ ap (λ (text : List ℕ). text ++ f (get_or items i d)) before ∙ flat_map_more f old (take i items) (get_or items i d) ∙ ap (λ (taken : List _). old ++ flat_map f taken) (sym (take_more items i d lt))
 
-one_class : (first second : ClassEntry) → types (Class first ∷ []) ≡ Class second ∷ [] → first ≡ second
-one_class first second e = cc
+pub written_more : {A : Type 0} (f : A → List ℕ) (old : List ℕ) (items : List A) (i : ℕ) (item : A) (now new : List ℕ) → i < length items → item ≡ get_or items i item
+    → now ≡ old ++ flat_map f (take i items) → new ≡ now ++ f item → new ≡ old ++ flat_map f (take (i + 1) items)
+written_more f old items i item now new lt is before more = written_at f old items i item now new lt before (more ∙ ap (λ x. now ++ f x) is)
 
-one_method : (first second : Method) → first ∷ [] ≡ second ∷ [] → first ≡ second
-one_method first second e = cc
+-- a part, and what is written behind it
+pub behind : (old part now rest last : List ℕ) → now ≡ old ++ part → last ≡ now ++ rest → last ≡ old ++ (part ++ rest)
+behind old part now rest last one others = others ∙ ap (λ (text : List ℕ). text ++ rest) one ∙ append_assoc old part rest
 
-parts_join : (class method : List ℕ) → ((((header ++ class) ++ counts) ++ method) ++ ending) ≡ header ++ (class ++ (counts ++ (method ++ ending)))
-parts_join class method =
-    append_assoc ((header ++ class) ++ counts) method ending ∙ append_assoc (header ++ class) counts (method ++ ending) ∙ append_assoc header class (counts ++ (method ++ ending))
-
--- the image is that of its one class and its one method
-image_of_parts : (image : Image) (class : ClassEntry) (method : Method) → IsSmall image → image.types ≡ Class class ∷ [] → image.methods ≡ method ∷ [] → image ≡ small_image class method
-image_of_parts image class method h class_is method_is =
-    let same_class : h.class ≡ class = one_class h.class class (sym (ap (λ (i : Image). i.types) h.image_is) ∙ class_is) in
-    let same_method : h.method ≡ method = one_method h.method method (sym (ap (λ (i : Image). i.methods) h.image_is) ∙ method_is) in
-    h.image_is ∙ ap (λ (c : ClassEntry). small_image c h.method) same_class ∙ ap (small_image class) same_method
-
-pub written : (image : Image) (class : ClassEntry) (method : Method) (a b c d e f : List ℕ) → IsSmall image → image.types ≡ Class class ∷ [] → image.methods ≡ method ∷ []
-    → a ≡ [] → b ≡ a ++ header → c ≡ b ++ type_bytes (Class class) → d ≡ c ++ counts → e ≡ d ++ method_bytes method → f ≡ e ++ ending → f ≡ spelling image
-written image class method a b c d e f h class_is method_is none head first between second last =
-    let parts : f ≡ ((((header ++ type_bytes (Class class)) ++ counts) ++ method_bytes method) ++ ending) = cc in
-    parts ∙ parts_join (type_bytes (Class class)) (method_bytes method) ∙ sym (spelling_parts class method) ∙ ap spelling (sym (image_of_parts image class method h class_is method_is))
+-- what each item meets holds of the item at a place, with those before it
+pub each_at : {A : Type 0} (P : List A → A → Type 0) (before items : List A) (i : ℕ) (item : A) → i < length items → item ≡ get_or items i item → EachBehind P before items → (front : List A) × P front item
+each_at P before [] i item lt is each = absurd (omega (arith, lt))
+each_at P before (x ∷ items) zero item lt is each = (before, subst (P before) (sym is) each.0)
+each_at P before (x ∷ items) (suc i) item lt is each = each_at P (before ++ x ∷ []) items i item (omega (arith, lt)) is each.1

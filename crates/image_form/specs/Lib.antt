@@ -1,6 +1,7 @@
 pub mod Format
-pub mod SmallForm
 pub mod Library
-pub mod Refused
+pub mod Grammar
+pub mod SmallForm
 pub mod Reading
+pub mod Refused
 pub mod Laws

@@ -1,11 +1,10 @@
 -- The small form of images: one class without fields, interfaces and rows, and one method, main,
 -- without arguments, result and handlers.
-use Rattle.std.specs.Prelude.{◌≡◌, ◌≢◌, ℕ, ◌+◌, ◌≤◌, List, [], ◌∷◌, ◌++◌, length}
+use Rattle.std.specs.Prelude.{◌≡◌, ℕ, ◌+◌, ◌≤◌, List, [], ◌∷◌, length}
 use Rattle.image_form.specs.declared.record.Image.{Image}
 use Rattle.image_form.specs.declared.record.TypeEntry.TheVariants.{Class}
 use Rattle.image_form.specs.declared.record.ClassEntry.{ClassEntry}
 use Rattle.image_form.specs.declared.record.Method.{Method}
-use Rattle.image_form.specs.Format.{spelling}
 
 -- a class without fields, interfaces and rows
 abbrev pub small_class : ℕ → List ℕ → ClassEntry
@@ -64,23 +63,3 @@ pub record IsSmall (image : Image) : Type 0 where
   pub image_is : image ≡ small_image class method
   pub class_small : IsSmallClass class
   pub method_small : IsSmallMethod method
-
--- the image is small, and the bytes are its spelling
-abbrev pub IsSpelled : List ℕ → Image → Type 0
-IsSpelled bytes image = IsSmall image × (bytes ≡ spelling image)
-
--- the bytes are a proper front of the spelling of a small image
-pub record IsFront (bytes : List ℕ) : Type 0 where
-  pub image : Image
-  pub behind : List ℕ
-  pub small : IsSmall image
-  pub spelled : bytes ++ behind ≡ spelling image
-  pub proper : behind ≢ []
-
--- the spelling of a small image is a proper front of the bytes
-pub record IsFollowed (bytes : List ℕ) : Type 0 where
-  pub image : Image
-  pub behind : List ℕ
-  pub small : IsSmall image
-  pub spelled : bytes ≡ spelling image ++ behind
-  pub proper : behind ≢ []

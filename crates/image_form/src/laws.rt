@@ -1,9 +1,13 @@
-ghost use Rattle.image_form.specs.Laws.{HasOneSpelling, SpellsOneImage, NoneIsFrontOfAnother};
+ghost use Rattle.image_form.specs.Laws.{HasOneSpelling, SpellsOneImage, NoneIsFrontOfAnother, SmallIsImage};
 
-/// A small image has one spelling and a spelling is that of one image, and none is a proper front of
-/// another.
+/// An image has one spelling and a spelling is that of one image, and none is a proper front of another.
 pub fn one_spelling()
     ensures spelling { HasOneSpelling }
     ensures image { SpellsOneImage }
     ensures front { NoneIsFrontOfAnother }
+{}
+
+/// An image of the small form is of the grammar.
+pub fn small_is_image()
+    ensures { SmallIsImage }
 {}

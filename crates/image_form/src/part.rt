@@ -1,74 +1,58 @@
-//! The bytes and numbers that an infusion is made of. Bytes that end before a part does are
-//! truncated where more bytes could complete the part.
+//! The bytes and numbers that an infusion is made of.
 
-ghost use Rattle.std.specs.Prelude.{◌≡◌, ◌≤◌, IfOk};
+ghost use Rattle.std.specs.Prelude.{◌≡◌};
 ghost use Rattle.image_form.specs.Refused.{Shows};
-ghost use Rattle.image_form.specs.Reading.{fixed_at, within_at, slice_at, sized_at};
+ghost use Rattle.image_form.specs.Reading.{u1_at, u2_at, slice_at, name_at};
 
 use crate::refusal::FormRefusal;
 use item_list::Items;
 use std::alloc::Global;
 
-/// The bytes behind these ones.
-#[tactic(auto, unfolding(crate::specs::Reading::fixed_at))]
-pub(crate) fn fixed_at<'a>(wanted: &[u8], bytes: &'a [u8]) -> Result<&'a [u8], FormRefusal>
-    ensures { Shows (λ x. x.now) result (fixed_at wanted.now bytes.now) }
-{
-    if let Some(rest) = bytes.strip_prefix(wanted) {
-        return Ok(rest);
-    }
-    if wanted.starts_with(bytes) {
-        return Err(FormRefusal::Truncated);
-    }
-    Err(FormRefusal::Unbuilt)
-}
-
-/// A number of two bytes, from `low` to `high`, and the bytes behind it.
-#[tactic(auto, unfolding(crate::specs::Reading::within_at))]
-pub(crate) fn within_at(low: u16, high: u16, bytes: &[u8]) -> Result<(u16, &[u8]), FormRefusal>
-    ensures value { Shows (λ x. (x.0, x.1.now)) result (within_at low high bytes.now) }
-    ensures within { IfOk result (λ x. (low ≤ x.0) × (x.0 ≤ high)) }
+/// A number of one byte, and the bytes behind it.
+#[tactic(auto, unfolding(crate::specs::Reading::u1_at))]
+pub(crate) fn u1_at(bytes: &[u8]) -> Result<(u8, &[u8]), FormRefusal>
+    ensures { Shows (λ x. (x.0, x.1.now)) result (u1_at bytes.now) }
 {
     match bytes {
         [] => Err(FormRefusal::Truncated),
-        [first] => {
-            let first = u16::from(*first);
-            if low / 256 <= first && first <= high / 256 {
-                return Err(FormRefusal::Truncated);
-            }
-            Err(FormRefusal::Unbuilt)
-        }
-        [first, second, rest @ ..] => {
-            let number = u16::from_be_bytes([*first, *second]);
-            if low <= number && number <= high {
-                return Ok((number, rest));
-            }
-            Err(FormRefusal::Unbuilt)
-        }
+        [byte, rest @ ..] => Ok((*byte, rest)),
+    }
+}
+
+/// A number of two bytes, and the bytes behind it.
+#[tactic(auto, unfolding(crate::specs::Reading::u2_at))]
+pub(crate) fn u2_at(bytes: &[u8]) -> Result<(u16, &[u8]), FormRefusal>
+    ensures { Shows (λ x. (x.0, x.1.now)) result (u2_at bytes.now) }
+{
+    match bytes {
+        [] => Err(FormRefusal::Truncated),
+        [_] => Err(FormRefusal::Truncated),
+        [first, second, rest @ ..] => Ok((u16::from_be_bytes([*first, *second]), rest)),
     }
 }
 
 /// So many bytes, and those behind them.
 #[tactic(auto, unfolding(crate::specs::Reading::slice_at))]
-fn slice_at(size: usize, bytes: &[u8]) -> Result<(&[u8], &[u8]), FormRefusal>
-    ensures { Shows (λ x. (x.0.now, x.1.now)) result (slice_at size bytes.now) }
+pub(crate) fn slice_at(
+    alloc: Global,
+    size: u16,
+    bytes: &[u8],
+) -> Result<(Items<u8>, &[u8]), FormRefusal>
+    ensures { Shows (λ x. (x.0, x.1.now)) result (slice_at size bytes.now) }
 {
+    let size = usize::from(size);
     if bytes.len() < size {
         return Err(FormRefusal::Truncated);
     }
-    Ok(bytes.split_at(size))
+    let (items, rest) = bytes.split_at(size);
+    Ok((Items::from_vec(Vec::from_slice(alloc, items)?), rest))
 }
 
-/// A length in two bytes, at least `low`, then so many bytes, and those behind them.
-#[tactic(auto, unfolding(crate::specs::Reading::sized_at))]
-pub(crate) fn sized_at(
-    alloc: Global,
-    low: u16,
-    bytes: &[u8],
-) -> Result<(Items<u8>, &[u8]), FormRefusal>
-    ensures { Shows (λ x. (x.0, x.1.now)) result (sized_at low bytes.now) }
+/// A name behind its length, and the bytes behind it.
+#[tactic(auto, unfolding(crate::specs::Reading::name_at))]
+pub(crate) fn name_at(alloc: Global, bytes: &[u8]) -> Result<(Items<u8>, &[u8]), FormRefusal>
+    ensures { Shows (λ x. (x.0, x.1.now)) result (name_at bytes.now) }
 {
-    let (size, rest) = within_at(low, u16::MAX, bytes)?;
-    let (items, rest) = slice_at(usize::from(size), rest)?;
-    Ok((Items::from_vec(Vec::from_slice(alloc, items)?), rest))
+    let (size, rest) = u2_at(bytes)?;
+    slice_at(alloc, size, rest)
 }

@@ -12,4 +12,4 @@ pub returns-clause-refused : goal.returns-clause-refused
 returns-clause-refused c = is_refused c.args.bytes.now c.image_of.result (λ i. omega (arith, c.type_inv.bytes i)) c.image_of.ensures
 
 pub returns-clause-refused_only : goal.returns-clause-refused_only
-returns-clause-refused_only c = is_answered c.args.bytes.now c.image_of.result (λ i. omega (arith, c.type_inv.bytes i)) c.image_of.ensures
+returns-clause-refused_only c = is_answered c.args.bytes.now c.image_of.result c.image_of.ensures
