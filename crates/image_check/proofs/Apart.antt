@@ -1,6 +1,7 @@
 -- A rule that fails is one that an image does not keep.
 use Rattle.std.proofs.Common.{◌≡◌, ℕ, ◌+◌, ◌-◌, ◌<◌, List, drop, length, Some, IsTrue, sym, subst, ◌∙◌, arith, true, inl, inr}
 use Rattle.std.specs.List.{AllByRecursion, Contains}
+use Rattle.std.proofs.lemmas.Bool.{false≢true}
 use Rattle.std.proofs.lemmas.Option.{some_pair_parts, slice_get_within, get_or_from_slice_get}
 use Rattle.image_instr.specs.declared.insn.MInsn.{MInsn}
 use Rattle.image_instr.specs.Reading.{insn_at}
@@ -72,8 +73,9 @@ nothing_fails image method checked built Memory pc h = h
 
 -- an image that is refused is not both checked and built
 pub refused_not_checked : (image : Image) (refusal : CheckRefusal) → IsRefused image refusal → IsChecked image → IsBuilt image → ⊥
-refused_not_checked image refusal refused checked built =
+refused_not_checked image refusal (inl none) checked built = false≢true (sym none.no_form ∙ built.form)
+refused_not_checked image refusal (inr refused) checked built =
     let k = refusal.method - 32 in
     let lt = slice_get_within image.methods k refused.method refused.is_method in
     let among : Contains image.methods refused.method = (k, lt, get_or_from_slice_get image.methods k refused.method refused.method refused.is_method) in
-    nothing_fails image refused.method (each-of (IsCheckedMethod image) image.methods refused.method checked among) (each-of IsBuiltMethod image.methods refused.method built among) refusal.cause refusal.pc refused.fails
+    nothing_fails image refused.method (each-of (IsCheckedMethod image) image.methods refused.method checked among) (each-of IsBuiltMethod image.methods refused.method built.methods among) refusal.cause refusal.pc refused.fails

@@ -1,5 +1,5 @@
--- The rules that an image keeps before it runs, and that the machine runs each of its instructions. An
--- image of the small form has no handlers, so no rule speaks of them yet.
+-- The rules that an image keeps before it runs, and that the machine runs it. The machine runs no image
+-- with handlers yet, so no rule speaks of them.
 use Rattle.std.specs.Prelude.{◌≡◌, ℕ, true}
 use Rattle.std.specs.List.{AllByRecursion}
 use Rattle.image_form.specs.declared.record.Image.{Image}
@@ -7,6 +7,7 @@ use Rattle.image_form.specs.declared.record.Method.{Method}
 use Rattle.image_check.specs.Code.{Insns, CodeIs, JumpsToStarts}
 use Rattle.image_check.specs.Ids.{HasIds}
 use Rattle.image_check.specs.Built.{is_built}
+use Rattle.image_check.specs.BuiltForm.{has_built_form}
 use Rattle.image_check.specs.Visits.{Depth, IsSent, IsRight}
 
 -- the code is instructions, which jump to starts and name what is there; each offset is reached with one
@@ -27,5 +28,7 @@ IsChecked image = AllByRecursion (IsCheckedMethod image) image.methods
 abbrev pub IsBuiltMethod : Method → Type 0
 IsBuiltMethod method = (insns : Insns) × CodeIs method.code insns × AllByRecursion (λ x. is_built x.1 ≡ true) insns
 
-abbrev pub IsBuilt : Image → Type 0
-IsBuilt image = AllByRecursion IsBuiltMethod image.methods
+-- the machine runs the image: it has the form, and each instruction is run
+pub record IsBuilt (image : Image) : Type 0 where
+  pub form : has_built_form image ≡ true
+  pub methods : AllByRecursion IsBuiltMethod image.methods

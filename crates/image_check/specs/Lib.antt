@@ -1,6 +1,7 @@
 pub mod Code
 pub mod Ids
 pub mod Built
+pub mod BuiltForm
 pub mod Visits
 pub mod Checked
 pub mod Refused

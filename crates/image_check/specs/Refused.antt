@@ -1,5 +1,5 @@
--- Why an image is not checked: a rule, and an offset of a method at which it fails.
-use Rattle.std.specs.Prelude.{◌≡◌, ◌≢◌, ℕ, ◌+◌, ◌-◌, ◌<◌, ◌≤◌, true, IsTrue, List, length, drop, Some, None, ◌⊎◌, slice_get}
+-- Why an image is not checked: its form, or a rule, and an offset of a method at which it fails.
+use Rattle.std.specs.Prelude.{◌≡◌, ◌≢◌, ℕ, ◌+◌, ◌-◌, ◌<◌, ◌≤◌, true, false, IsTrue, List, length, drop, Some, None, ◌⊎◌, slice_get}
 use Rattle.std.specs.List.{Contains}
 use Rattle.image_instr.specs.declared.insn.MInsn.{MInsn}
 use Rattle.image_instr.specs.Reading.{insn_at}
@@ -11,6 +11,7 @@ use Rattle.image_check.specs.declared.refusal.CheckRefusal.{CheckRefusal}
 use Rattle.image_check.specs.Code.{Insns, StandIn, CodeIs, JumpsToStarts}
 use Rattle.image_check.specs.Ids.{HasIds}
 use Rattle.image_check.specs.Built.{is_built}
+use Rattle.image_check.specs.BuiltForm.{has_built_form}
 use Rattle.image_check.specs.Visits.{Depth, IsSent, HasOperands, ReturnsResult, FitsBody, moved_by, behind, goes_on, successors}
 
 -- instructions stand up to the offset, and none stands there, though bytes do
@@ -71,12 +72,22 @@ FailsIn image method Falls pc = IsReachedWith image method pc (λ d insn size. F
 FailsIn image method Unbuilt pc = HasOther method.code pc (λ insns x. is_built x.1 ≡ true)
 FailsIn image method Memory pc = ⊥
 
--- the image is refused so: the method of the id is there, and the rule fails in it
-pub record IsRefused (image : Image) (refusal : CheckRefusal) : Type 0 where
+-- the image is not of the form that the machine runs, which has no place
+pub record IsNoForm (image : Image) (refusal : CheckRefusal) : Type 0 where
+  pub no_form : has_built_form image ≡ false
+  pub is : refusal ≡ record { cause = Unbuilt; method = 0; pc = 0 }
+
+-- the method of the id is there, and the rule fails in it
+pub record FailsThere (image : Image) (refusal : CheckRefusal) : Type 0 where
+  pub form : has_built_form image ≡ true
   pub method : Method
   pub is_method : slice_get image.methods (refusal.method - 32) ≡ Some method
   pub own : 32 ≤ refusal.method
   pub fails : FailsIn image method refusal.cause refusal.pc
+
+-- the image is refused so: for its form, or else for a rule
+abbrev pub IsRefused : Image → CheckRefusal → Type 0
+IsRefused image refusal = IsNoForm image refusal ⊎ FailsThere image refusal
 
 -- for want of memory, or the rule that the cause names fails in the method at the offset
 abbrev pub IsFault : Image → Method → CheckCause → ℕ → Type 0

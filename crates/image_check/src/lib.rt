@@ -6,6 +6,7 @@
 #![tactic(auto)]
 
 mod built;
+mod built_form;
 mod depth;
 mod flow;
 mod ids;

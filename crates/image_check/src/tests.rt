@@ -1,70 +1,46 @@
 //! Code by hand in an image of one method: what is checked, and which rule fails where.
 
-ghost use Rattle.std.specs.Prelude.{◌≤◌, ◌+◌, length, IfOk};
-ghost use Rattle.image_form.specs.SmallForm.{IsSmall};
+ghost use Rattle.std.specs.Prelude.{IfOk};
+ghost use Rattle.image_form.specs.Grammar.{IsImage};
 
 use super::*;
-use image_form::{ClassEntry, Image, Method, TypeEntry};
-use image_instr::Sig;
-use item_list::Items;
-use std::alloc::{AllocError, Global};
+use image_form::{Image, read_image};
+use std::alloc::Global;
 use std::test::*;
 
-/// A class Hi of one method with this code.
-fn image_of(alloc: Global, cell_locals: u16, body: u16, code: &[u8]) -> Result<Image, AllocError>
-    requires locals { cell_locals ≤ body }
-    requires body { body ≤ 32763 }
-    requires some { 1 ≤ length code.now }
-    requires fits { length code.now ≤ 65535 }
-    ensures { IfOk result IsSmall }
+/// An infusion up to the cells of main's locals: a class Hi, and one method.
+const HEAD: &[u8] = b"DJIN\0\x01\0\x01\0\0\0\0\0\0\0\0\0\0\0\0\0\x02Hi\0\0\0\x01\0\0\0\0\0\0";
+
+/// The image of a class Hi of one method with this code, as its infusion says it.
+fn image_of(alloc: Global, cell_locals: u16, body: u16, code: &[u8]) -> Result<Image, Fail>
+    ensures { IfOk result IsImage }
 {
-    let name = Vec::from_slice(alloc, b"Hi")?;
-    let code = Vec::from_slice(alloc, code)?;
-    let class = ClassEntry {
-        parent: 0,
-        flags: 0,
-        refs: 0,
-        nums: 0,
-        interfaces: Items::empty(alloc),
-        rows: Items::empty(alloc),
-        name: Items::from_vec(name),
-    };
-    let method = Method {
-        sig: Sig {
-            refs: 0,
-            cells: 0,
-            result: 0,
-        },
-        ref_locals: 0,
-        cell_locals,
-        body,
-        code: Items::from_vec(code),
-        handlers: Items::empty(alloc),
-    };
-    let mut types = Vec::new(alloc);
-    types.push(TypeEntry::Class(class))?;
-    let mut methods = Vec::new(alloc);
-    methods.push(method)?;
-    Ok(Image {
-        version: 1,
-        types: Items::from_vec(types),
-        selectors: Items::empty(alloc),
-        methods: Items::from_vec(methods),
-        static_refs: 0,
-        static_cells: Items::empty(alloc),
-        main: 32,
-    })
+    let length = u16::try_from(code.len()).ok().ok_or("long code")?;
+    let mut bytes = Vec::from_slice(alloc, HEAD)?;
+    bytes.extend_from_slice(&cell_locals.to_be_bytes())?;
+    bytes.extend_from_slice(&body.to_be_bytes())?;
+    bytes.extend_from_slice(&length.to_be_bytes())?;
+    bytes.extend_from_slice(code)?;
+    bytes.extend_from_slice(b"\0\0\0\0\0\0\0\x20")?;
+    match read_image(alloc, bytes.as_slice()) {
+        Ok(image) => Ok(image),
+        Err(_) => Err(Fail::from("no infusion")),
+    }
 }
 
 /// What the check of this code answers, as text.
-fn answer(alloc: Global, cell_locals: u16, body: u16, code: &[u8]) -> Result<String, AllocError> {
-    if body < cell_locals || 32763 < body || code.is_empty() || 65535 < code.len() {
-        return String::from_str(alloc, "not small");
-    }
+fn answer(alloc: Global, cell_locals: u16, body: u16, code: &[u8]) -> Result<String, Fail> {
     let image = image_of(alloc, cell_locals, body, code)?;
+    verdict(alloc, image)
+}
+
+/// What the check of this image answers, as text.
+fn verdict(alloc: Global, image: Image) -> Result<String, Fail>
+    requires { IsImage image }
+{
     match check(alloc, image) {
-        Ok(_) => String::from_str(alloc, "Ok"),
-        Err((_, why)) => { format!(in alloc; "{:?} {} {}", why.cause, why.method, why.pc) }
+        Ok(_) => Ok(String::from_str(alloc, "Ok")?),
+        Err((_, why)) => Ok(format!(in alloc; "{:?} {} {}", why.cause, why.method, why.pc)?),
     }
 }
 
@@ -158,6 +134,78 @@ fn tests_code_by_the_rules(rt: HostRuntime) -> Result<(), Fail> {
     Ok(())
 }
 
+/// What the check of this infusion answers, as text.
+fn answer_to(alloc: Global, bytes: &[u8]) -> Result<String, Fail> {
+    match read_image(alloc, bytes) {
+        Ok(image) => verdict(alloc, image),
+        Err(_) => Err(Fail::from("no infusion")),
+    }
+}
+
+#[test]
+fn tests_the_form_first(rt: HostRuntime) -> Result<(), Fail> {
+    // Each has a class Hi and a main, whose code is RET, and one thing more.
+    let rows: [(&[u8], &str); 11] = [
+        // nothing more
+        (
+            b"DJIN\0\x01\0\x01\0\0\0\0\0\0\0\0\0\0\0\0\0\x02Hi\0\0\0\x01\0\0\0\0\0\0\0\0\0\0\0\x01\x79\0\0\0\0\0\0\0\x20",
+            "Ok",
+        ),
+        // a second class, which is abstract
+        (
+            b"DJIN\0\x01\0\x02\0\0\0\0\0\0\0\0\0\0\0\0\0\x02Hi\0\0\x20\x02\0\0\0\0\0\0\0\0\0\0\0\0\0\x01\0\0\0\0\0\0\0\0\0\0\0\x01\x79\0\0\0\0\0\0\0\x20",
+            "Ok",
+        ),
+        // a second type: an interface, an array of Hi, an array of ints
+        (
+            b"DJIN\0\x01\0\x02\0\0\0\0\0\0\0\0\0\0\0\0\0\x02Hi\0\0\0\x03\0\0\0\0\0\0\0\0\0\0\0\0\0\x01\0\0\0\0\0\0\0\0\0\0\0\x01\x79\0\0\0\0\0\0\0\x20",
+            "Unbuilt 0 0",
+        ),
+        (
+            b"DJIN\0\x01\0\x02\0\0\0\0\0\0\0\0\0\0\0\0\0\x02Hi\x01\0\x20\0\0\0\x01\0\0\0\0\0\0\0\0\0\0\0\x01\x79\0\0\0\0\0\0\0\x20",
+            "Unbuilt 0 0",
+        ),
+        (
+            b"DJIN\0\x01\0\x02\0\0\0\0\0\0\0\0\0\0\0\0\0\x02Hi\x02\x0a\0\0\0\x01\0\0\0\0\0\0\0\0\0\0\0\x01\x79\0\0\0\0\0\0\0\x20",
+            "Unbuilt 0 0",
+        ),
+        // a reference field, and two cells of another
+        (
+            b"DJIN\0\x01\0\x01\0\0\0\0\0\x01\0\0\0\0\0\0\0\x02Hi\0\0\0\x01\0\0\0\0\0\0\0\0\0\0\0\x01\x79\0\0\0\0\0\0\0\x20",
+            "Unbuilt 0 0",
+        ),
+        (
+            b"DJIN\0\x01\0\x01\0\0\0\0\0\0\0\x02\0\0\0\0\0\x02Hi\0\0\0\x01\0\0\0\0\0\0\0\0\0\0\0\x01\x79\0\0\0\0\0\0\0\x20",
+            "Unbuilt 0 0",
+        ),
+        // a selector
+        (
+            b"DJIN\0\x01\0\x01\0\0\0\0\0\0\0\0\0\0\0\0\0\x02Hi\0\x01\x01\0\0\0\0\x01\0\0\0\0\0\0\0\0\0\0\0\x01\x79\0\0\0\0\0\0\0\x20",
+            "Unbuilt 0 0",
+        ),
+        // a handler
+        (
+            b"DJIN\0\x01\0\x01\0\0\0\0\0\0\0\0\0\0\0\0\0\x02Hi\0\0\0\x01\0\0\0\0\0\0\0\0\0\0\0\x01\x79\0\x01\0\0\0\x01\0\0\xff\xff\0\0\0\0\0\x20",
+            "Unbuilt 0 0",
+        ),
+        // a reference static, and a cell of another
+        (
+            b"DJIN\0\x01\0\x01\0\0\0\0\0\0\0\0\0\0\0\0\0\x02Hi\0\0\0\x01\0\0\0\0\0\0\0\0\0\0\0\x01\x79\0\0\0\x01\0\0\0\x20",
+            "Unbuilt 0 0",
+        ),
+        (
+            b"DJIN\0\x01\0\x01\0\0\0\0\0\0\0\0\0\0\0\0\0\x02Hi\0\0\0\x01\0\0\0\0\0\0\0\0\0\0\0\x01\x79\0\0\0\0\0\x01\0\0\0\x20",
+            "Unbuilt 0 0",
+        ),
+    ];
+    let alloc = rt.alloc();
+    for (bytes, wanted) in &rows {
+        let found = answer_to(alloc, bytes)?;
+        assert_eq!(rt; found.as_str(), *wanted, "{bytes:?}");
+    }
+    Ok(())
+}
+
 #[test]
 fn lends_the_code_and_the_names(rt: HostRuntime) -> Result<(), Fail> {
     let alloc = rt.alloc();
@@ -167,6 +215,7 @@ fn lends_the_code_and_the_names(rt: HostRuntime) -> Result<(), Fail> {
     assert_eq!(rt; checked.code(32), [0x79].as_slice());
     assert_eq!(rt; checked.name_of(0), b"java/lang/Object".as_slice());
     assert_eq!(rt; checked.name_of(14), b"mote/Console".as_slice());
+    assert_eq!(rt; checked.image().types.len(), 1);
     assert_eq!(rt; checked.name_of(32), b"Hi".as_slice());
     Ok(())
 }

@@ -1,13 +1,16 @@
 //! The check of an image, and what a checked image lends.
 
-ghost use Rattle.std.specs.Prelude.{◌≡◌, ◌≢◌, ◌≤◌, ◌⊎◌, IfOk, IfErr, OnOk, IsSome, Some, length, slice_get, ◌-◌};
+ghost use Rattle.std.specs.Prelude.{◌≡◌, ◌≢◌, ◌≤◌, ◌⊎◌, true, IfOk, IfErr, OnOk, IsSome, Some, length, slice_get, ◌-◌};
+ghost use Rattle.std.specs.List.{AllByRecursion};
 ghost use Rattle.image_form.specs.declared.record.Method.{Method};
-ghost use Rattle.image_form.specs.SmallForm.{IsSmall};
+ghost use Rattle.image_form.specs.Grammar.{IsImage};
+ghost use Rattle.image_check.specs.BuiltForm.{has_built_form};
 ghost use Rattle.image_check.specs.declared.refusal.CheckCause.TheVariants.{Memory};
 ghost use Rattle.image_check.specs.Checked.{IsCheckedMethod, IsChecked, IsBuiltMethod, IsBuilt};
-ghost use Rattle.image_check.specs.Refused.{IsFault, IsRefused};
+ghost use Rattle.image_check.specs.Refused.{IsFault, FailsThere, IsRefused};
 
 use crate::built::test_built;
+use crate::built_form::has_built_form;
 use crate::flow::follow_depths;
 use crate::ids::{FIRST_OWN, test_ids};
 use crate::jumps::test_targets;
@@ -26,14 +29,14 @@ pub struct Checked {
 
 impl Model for Checked {
     ghost use Rattle.image_form.specs.declared.record.Image.{Image};
-    ghost use Rattle.image_form.specs.SmallForm.{IsSmall};
+    ghost use Rattle.image_form.specs.Grammar.{IsImage};
     ghost use Rattle.image_check.specs.Checked.{IsChecked, IsBuilt};
 
     ghost Value = { Image };
 
     ghost view = { λ checked. checked.image };
 
-    ghost invariant = { λ checked. IsSmall checked.image × IsChecked checked.image × IsBuilt checked.image };
+    ghost invariant = { λ checked. IsImage checked.image × IsChecked checked.image × IsBuilt checked.image };
 }
 
 /// Tests a method: its code, its targets, its ids, that the machine runs it, and its depths.
@@ -71,12 +74,20 @@ fn refusal_of(fault: Fault, method: u16) -> CheckRefusal
     }
 }
 
+/// The image is not of the form that the machine runs.
+const NO_FORM: CheckRefusal = CheckRefusal {
+    cause: CheckCause::Unbuilt,
+    method: 0,
+    pc: 0,
+};
+
 /// Tests each method, by its id.
 fn check_methods(alloc: Global, image: &Image) -> Result<(), CheckRefusal>
-    requires { IsSmall image.now }
+    requires image { IsImage image.now }
+    requires form { has_built_form image.now ≡ true }
     ensures checked { OnOk result (IsChecked image.now) }
-    ensures built { OnOk result (IsBuilt image.now) }
-    ensures refused { IfErr result (λ refusal. (refusal.cause ≡ Memory) ⊎ IsRefused image.now refusal) }
+    ensures built { OnOk result (AllByRecursion IsBuiltMethod image.now.methods) }
+    ensures refused { IfErr result (λ refusal. (refusal.cause ≡ Memory) ⊎ FailsThere image.now refusal) }
     ensures memory { IfErr result (λ refusal. refusal.cause ≡ Memory → (refusal.method ≡ 0) × (refusal.pc ≡ 0)) }
 {
     for (index, method) in image.methods.as_slice().iter().enumerate() {
@@ -87,15 +98,19 @@ fn check_methods(alloc: Global, image: &Image) -> Result<(), CheckRefusal>
     Ok(())
 }
 
-/// Checks an image. It is answered where each method keeps the rules and the machine runs each of its
-/// instructions; else it is given back, with a rule that fails and where.
+/// Checks an image. It is answered where it has the form that the machine runs, each method keeps the
+/// rules and the machine runs each of its instructions; else it is given back, with its form as the
+/// cause and no place, or with a rule that fails and where.
 pub fn check(alloc: Global, image: Image) -> Result<Checked, (Image, CheckRefusal)>
-    requires { IsSmall image }
+    requires { IsImage image }
     ensures found { IfOk result (λ checked. (checked ≡ image) × IsChecked image × IsBuilt image) }
     ensures only { IsChecked image → IsBuilt image → IfErr result (λ refused. refused.1.cause ≡ Memory) }
     ensures refused { IfErr result (λ refused. (refused.0 ≡ image) × ((refused.1.cause ≡ Memory) ⊎ IsRefused image refused.1)) }
     ensures memory { IfErr result (λ refused. refused.1.cause ≡ Memory → (refused.1.method ≡ 0) × (refused.1.pc ≡ 0)) }
 {
+    if !has_built_form(&image) {
+        return Err((image, NO_FORM));
+    }
     match check_methods(alloc, &image) {
         Ok(()) => Ok(Checked { image }),
         Err(refusal) => Err((image, refusal)),
@@ -110,7 +125,7 @@ impl Checked {
     /// The whole image.
     pub fn image(&self) -> &Image
         ensures all { result.now ≡ self.now }
-        ensures small { IsSmall self.now }
+        ensures image { IsImage self.now }
         ensures checked { IsChecked self.now }
         ensures built { IsBuilt self.now }
     {
