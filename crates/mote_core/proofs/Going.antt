@@ -14,7 +14,7 @@ use Rattle.image_instr.specs.declared.insn.MInsn.{MInsn}
 use Rattle.image_instr.specs.Reading.{insn_at, rows_at}
 use Rattle.image_form.specs.declared.record.Image.{Image}
 use Rattle.image_form.specs.declared.record.Method.{Method}
-use Rattle.image_form.specs.SmallForm.{IsSmall}
+use Rattle.image_form.specs.Grammar.{IsImage}
 use Rattle.image_check.specs.Checked.{IsChecked, IsBuilt}
 use Rattle.mote_model.specs.declared.ending.Ending.{Ending}
 use Rattle.mote_model.specs.declared.ending.Ending.TheVariants.{Done, Uncaught, Spent, HeapWanted, StackWanted, ConsoleFault, Misfit}
@@ -137,7 +137,7 @@ same_method image state good method is_main = same_some (sym good.is_main ∙ is
 
 -- ---- a run over a console
 
-module _ {C : Type 0} (left shown noted : C → Option (List ℕ)) (faults : C → ℕ) (room : C → Option ℕ) (ready : Ready) (small : IsSmall ready.image) (checked : IsChecked ready.image) (built : IsBuilt ready.image) (ticks : ℕ) (old : C) where
+module _ {C : Type 0} (left shown noted : C → Option (List ℕ)) (faults : C → ℕ) (room : C → Option ℕ) (ready : Ready) (is_image : IsImage ready.image) (checked : IsChecked ready.image) (built : IsBuilt ready.image) (ticks : ℕ) (old : C) where
   abbrev pub GoingTo : (now : C) → Place → Type 0
   GoingTo now place = Going left shown noted faults room ready.image (limits_of ready ticks) old now place
 
@@ -255,7 +255,7 @@ module _ {C : Type 0} (left shown noted : C → Option (List ℕ)) (faults : C �
       → Shows left shown noted faults room (limits_of ready ticks) now new after (step_frames ready.image (limits_of ready ticks) g.state g.state.frames) (Ok tt) → GoesOn now new before after g
   goes-on now new before after g shows =
       on-by now new before after g (step_frames ready.image (limits_of ready ticks) g.state g.state.frames) refl
-      (step_good ready.image small checked built (limits_of ready ticks) g.state g.good (within ready.image (limits_of ready ticks) g.state before g.is g.good)) shows
+      (step_good ready.image is_image checked built (limits_of ready ticks) g.state g.good (within ready.image (limits_of ready ticks) g.state before g.is g.good)) shows
 
   -- ---- the end
 
@@ -295,7 +295,7 @@ module _ {C : Type 0} (left shown noted : C → Option (List ℕ)) (faults : C �
       → (good : IsGood ready.image next) → next.ticks ≤ ticks → BrokeOff shown noted faults room now new items
       → Failed left shown noted faults room ready ticks old new
   failed now new place g items next e good less broke =
-      let rest = ends_from ready.image small checked built (limits_of ready ticks) next good less (g.said ++ items) in
+      let rest = ends_from ready.image is_image checked built (limits_of ready ticks) next good less (g.said ++ items) in
       record {
         outcome = record { ending = rest.3; dialogue = (g.said ++ items) ++ rest.1; left = rest.2.input };
         known = rest.5;
@@ -325,7 +325,7 @@ module _ {C : Type 0} (left shown noted : C → Option (List ℕ)) (faults : C �
       → Shows left shown noted faults room (limits_of ready ticks) now new after (step_frames ready.image (limits_of ready ticks) g.state g.state.frames) (Err ending) → Ran left shown noted faults room ready ticks old new ending
   ends-here now new before after g ending shows =
       end-by now new before after g ending (step_frames ready.image (limits_of ready ticks) g.state g.state.frames) refl
-      (step_good ready.image small checked built (limits_of ready ticks) g.state g.good (within ready.image (limits_of ready ticks) g.state before g.is g.good)) shows
+      (step_good ready.image is_image checked built (limits_of ready ticks) g.state g.good (within ready.image (limits_of ready ticks) g.state before g.is g.good)) shows
 
   ends-so_far : (now new : C) (after : Place) (ending : Ending) (step : Step State Ending) → Shows left shown noted faults room (limits_of ready ticks) now new after step (Err ending) → IsEndingSoFar ending
   ends-so_far now new after ending (Goes items next) shows = subst IsEndingSoFar (sym shows.0) tt
@@ -399,7 +399,7 @@ module _ {C : Type 0} (left shown noted : C → Option (List ℕ)) (faults : C �
       record {
         state = start_with ready.image (first_frame ready.image.main method ∷ []) input;
         said = [];
-        good = start_good ready.image small checked built method is_main input;
+        good = start_good ready.image is_image checked built method is_main input;
         is = record {
           frame = first_frame ready.image.main method;
           frames = refl;

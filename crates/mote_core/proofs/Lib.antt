@@ -1,4 +1,4 @@
-pub mod Small
+pub mod MainThere
 pub mod Sizes
 pub mod Starts
 pub mod Sent

@@ -1,4 +1,4 @@
--- The run of a small, checked and built image is never stuck, and it ends.
+-- The run of a checked and built image is never stuck, and it ends.
 use Rattle.std.proofs.Common.{◌≡◌, ℕ, zero, suc, ◌+◌, ◌<◌, ◌≤◌, Bool, true, false, cond, List, [], ◌∷◌, ◌++◌, length, drop, nat_le, Option, Some, None, refl, sym, ap, subst, ◌∙◌, arith, append_assoc, append-nil, le_refl}
 use Rattle.std.proofs.lemmas.List.{length-replicate}
 use Rattle.dialogue.specs.Dialogue.{Item}
@@ -9,7 +9,7 @@ use Rattle.image_instr.specs.declared.insn.MInsn.{MInsn}
 use Rattle.image_instr.specs.Reading.{rows_at}
 use Rattle.image_form.specs.declared.record.Image.{Image}
 use Rattle.image_form.specs.declared.record.Method.{Method}
-use Rattle.image_form.specs.SmallForm.{IsSmall}
+use Rattle.image_form.specs.Grammar.{IsImage}
 use Rattle.image_check.specs.Checked.{IsChecked, IsBuilt}
 use Rattle.image_check.specs.Visits.{depth}
 use Rattle.mote_model.specs.declared.ending.Ending.{Ending}
@@ -17,7 +17,7 @@ use Rattle.mote_model.specs.declared.ending.Ending.TheVariants.{StackWanted}
 use Rattle.mote_model.specs.State.{State}
 use Rattle.mote_model.specs.Machine.{method_of, code_of, step_insn, step_found, step_code, step_frames, machine, frame_cells, first_frame, start_with, start_main}
 use Rattle.mote_core.specs.Good.{IsGood, IsNearer, IsStepEnding, IsGoodStep, left_of, HasEnd}
-use Rattle.mote_core.proofs.Small.{main_there}
+use Rattle.mote_core.proofs.MainThere.{main_there}
 use Rattle.mote_core.proofs.CellFacts.{zeros-cells}
 use Rattle.mote_core.proofs.Sent.{Stands, right_at}
 use Rattle.mote_core.proofs.Steps.{insn-good}
@@ -31,8 +31,8 @@ stands_here image checked built state good =
     (depth (length good.frame.refs.operands) (length good.frame.cells.operands)) good.sent
 
 -- a step from a good state is a good step: it ends the run, or leads to a good state that has less left
-pub step_good : (image : Image) → IsSmall image → IsChecked image → IsBuilt image → (limits : Limits) (state : State) (good : IsGood image state) → state.ticks ≤ limits.ticks → IsGoodStep image limits state good (step_frames image limits state state.frames)
-step_good image small checked built limits state good within =
+pub step_good : (image : Image) → IsImage image → IsChecked image → IsBuilt image → (limits : Limits) (state : State) (good : IsGood image state) → state.ticks ≤ limits.ticks → IsGoodStep image limits state good (step_frames image limits state state.frames)
+step_good image is_image checked built limits state good within =
     let stands = stands_here image checked built state good in
     let right = stands.right in
     let bytes = drop good.frame.pc good.method.code in
@@ -47,8 +47,8 @@ step_good image small checked built limits state good within =
 
 -- ---- the start
 
-pub start_good : (image : Image) → IsSmall image → IsChecked image → IsBuilt image → (method : Method) → method_of image image.main ≡ Some method → (input : List ℕ) → IsGood image (start_with image (first_frame image.main method ∷ []) input)
-start_good image small checked built method is_main input =
+pub start_good : (image : Image) → IsImage image → IsChecked image → IsBuilt image → (method : Method) → method_of image image.main ≡ Some method → (input : List ℕ) → IsGood image (start_with image (first_frame image.main method ∷ []) input)
+start_good image is_image checked built method is_main input =
     record {
       method = method;
       frame = first_frame image.main method;
@@ -100,36 +100,36 @@ one_below : (a b n : ℕ) → a < b → b ≤ suc n → a ≤ n
 one_below a b n p q = omega arith
 
 -- by what is left
-ends_within : (image : Image) → IsSmall image → IsChecked image → IsBuilt image → (limits : Limits) (bound : ℕ) (state : State) (good : IsGood image state) → state.ticks ≤ limits.ticks
+ends_within : (image : Image) → IsImage image → IsChecked image → IsBuilt image → (limits : Limits) (bound : ℕ) (state : State) (good : IsGood image state) → state.ticks ≤ limits.ticks
     → left_of limits good.method.code state good.frame ≤ bound → (said : List Item) → ComesToEnd image limits state said
-ends_within image small checked built limits zero state good within below said =
-    from_nearer image limits state good said (step_frames image limits state state.frames) refl (step_good image small checked built limits state good within)
+ends_within image is_image checked built limits zero state good within below said =
+    from_nearer image limits state good said (step_frames image limits state state.frames) refl (step_good image is_image checked built limits state good within)
     (λ items next nearer. absurd (none_below _ _ nearer.nearer below))
-ends_within image small checked built limits (suc bound) state good within below said =
-    from_nearer image limits state good said (step_frames image limits state state.frames) refl (step_good image small checked built limits state good within)
-    (λ items next nearer. ends_within image small checked built limits bound next nearer.good_next nearer.ticks (one_below _ _ bound nearer.nearer below) (said ++ items))
+ends_within image is_image checked built limits (suc bound) state good within below said =
+    from_nearer image limits state good said (step_frames image limits state state.frames) refl (step_good image is_image checked built limits state good within)
+    (λ items next nearer. ends_within image is_image checked built limits bound next nearer.good_next nearer.ticks (one_below _ _ bound nearer.nearer below) (said ++ items))
 
 -- the run from a good state ends
-pub ends_from : (image : Image) → IsSmall image → IsChecked image → IsBuilt image → (limits : Limits) (state : State) → IsGood image state → state.ticks ≤ limits.ticks → (said : List Item)
+pub ends_from : (image : Image) → IsImage image → IsChecked image → IsBuilt image → (limits : Limits) (state : State) → IsGood image state → state.ticks ≤ limits.ticks → (said : List Item)
     → (steps : ℕ) × (more : List Item) × (last : State) × (ending : Ending) × (run_from (machine image limits) (Running said state) steps ≡ Over (said ++ more) last ending) × IsStepEnding ending
-ends_from image small checked built limits state good within said =
-    ends_within image small checked built limits (left_of limits good.method.code state good.frame) state good within (le_refl _) said
+ends_from image is_image checked built limits state good within said =
+    ends_within image is_image checked built limits (left_of limits good.method.code state good.frame) state good within (le_refl _) said
 
 -- the run of the frame of main, or of no frame where it does not fit the stack
-started : (image : Image) → IsSmall image → IsChecked image → IsBuilt image → (limits : Limits) (input : List ℕ) (method : Method) → method_of image image.main ≡ Some method
+started : (image : Image) → IsImage image → IsChecked image → IsBuilt image → (limits : Limits) (input : List ℕ) (method : Method) → method_of image image.main ≡ Some method
     → (fits : Bool) → (steps : ℕ) × (more : List Item) × (last : State) × (ending : Ending)
     × (run_from (machine image limits) (cond fits (Running [] (start_with image (first_frame image.main method ∷ []) input)) (Over [] (start_with image [] input) (StackWanted (frame_cells method) 0))) steps ≡ Over more last ending)
-started image small checked built limits input method is_main true =
-    let ended = ends_from image small checked built limits (start_with image (first_frame image.main method ∷ []) input) (start_good image small checked built method is_main input) (omega arith) [] in
+started image is_image checked built limits input method is_main true =
+    let ended = ends_from image is_image checked built limits (start_with image (first_frame image.main method ∷ []) input) (start_good image is_image checked built method is_main input) (omega arith) [] in
     (ended.0, ended.1, ended.2, ended.3, ended.4)
-started image small checked built limits input method is_main false =
+started image is_image checked built limits input method is_main false =
     (zero, [], start_with image [] input, StackWanted (frame_cells method) 0, refl)
 
 -- the limited run ends
-pub runs_end : (image : Image) → IsSmall image → IsChecked image → IsBuilt image → (limits : Limits) (input : List ℕ) → HasEnd image limits input
-runs_end image small checked built limits input =
-    let main = main_there image small in
-    let ended = started image small checked built limits input main.0 main.1 (nat_le (frame_cells main.0) limits.stack) in
+pub runs_end : (image : Image) → IsImage image → IsChecked image → IsBuilt image → (limits : Limits) (input : List ℕ) → HasEnd image limits input
+runs_end image is_image checked built limits input =
+    let main = main_there image is_image in
+    let ended = started image is_image checked built limits input main.0 main.1 (nat_le (frame_cells main.0) limits.stack) in
     record {
       outcome = record { ending = ended.3; dialogue = ended.1; left = ended.2.input };
       ends = record {

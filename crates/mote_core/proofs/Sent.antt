@@ -135,4 +135,4 @@ own_method P image id method all is = own (nat_lt id 32) is
 -- the instruction at an offset that a depth reaches
 pub right_at : (image : Image) → IsChecked image → IsBuilt image → (id : ℕ) (method : Method) → method_of image id ≡ Some method → (pc : ℕ) (d : Depth) → IsSent image method.code pc d → Stands image method pc d
 right_at image checked built id method is pc d sent =
-    stands_in image method (own_method (IsCheckedMethod image) image id method checked is) (own_method IsBuiltMethod image id method built is) pc d sent
+    stands_in image method (own_method (IsCheckedMethod image) image id method checked is) (own_method IsBuiltMethod image id method built.methods is) pc d sent

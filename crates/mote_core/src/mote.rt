@@ -1,5 +1,5 @@
 ghost use Rattle.std.specs.Prelude.{◌≡◌, ◌≤◌, Some, IfOk, IfErr};
-ghost use Rattle.image_form.specs.SmallForm.{IsSmall};
+ghost use Rattle.image_form.specs.Grammar.{IsImage};
 ghost use Rattle.image_form.specs.Library.{name_of as name_in};
 ghost use Rattle.image_check.specs.Names.{HasType};
 ghost use Rattle.mote_model.specs.Machine.{method_of};
@@ -98,7 +98,7 @@ impl Mote {
 
 /// The method that an image names as its main.
 fn main_method(image: &Image) -> &Method
-    requires { IsSmall image.now }
+    requires { IsImage image.now }
     ensures { method_of image.now image.now.main ≡ Some result.now }
 {
     &image.methods.as_slice()[usize::from(image.main - FIRST_METHOD)]

@@ -1,70 +1,39 @@
 //! Code by hand in an image of one method: how its run ends, and what it shows.
 
-ghost use Rattle.std.specs.Prelude.{◌≤◌, length, IfOk};
-ghost use Rattle.image_form.specs.SmallForm.{IsSmall};
+ghost use Rattle.std.specs.Prelude.{IfOk};
+ghost use Rattle.image_form.specs.Grammar.{IsImage};
 
 use super::*;
 use host_face::MemConsole;
 use image_check::{Checked, check};
-use image_form::{ClassEntry, Image, Method, TypeEntry};
-use image_instr::Sig;
-use item_list::Items;
+use image_form::{Image, read_image};
 use mote_model::Ending;
-use std::alloc::{AllocError, Global};
+use std::alloc::Global;
 use std::process::Abort;
 use std::test::*;
 
-/// A class Hi of one method with this code.
-fn image_of(alloc: Global, cell_locals: u16, body: u16, code: &[u8]) -> Result<Image, AllocError>
-    requires locals { cell_locals ≤ body }
-    requires body { body ≤ 32763 }
-    requires some { 1 ≤ length code.now }
-    requires fits { length code.now ≤ 65535 }
-    ensures { IfOk result IsSmall }
+/// An infusion up to the cells of main's locals: a class Hi, and one method.
+const HEAD: &[u8] = b"DJIN\0\x01\0\x01\0\0\0\0\0\0\0\0\0\0\0\0\0\x02Hi\0\0\0\x01\0\0\0\0\0\0";
+
+/// The image of a class Hi of one method with this code, as its infusion says it.
+fn image_of(alloc: Global, cell_locals: u16, body: u16, code: &[u8]) -> Result<Image, Fail>
+    ensures { IfOk result IsImage }
 {
-    let name = Vec::from_slice(alloc, b"Hi")?;
-    let code = Vec::from_slice(alloc, code)?;
-    let class = ClassEntry {
-        parent: 0,
-        flags: 0,
-        refs: 0,
-        nums: 0,
-        interfaces: Items::empty(alloc),
-        rows: Items::empty(alloc),
-        name: Items::from_vec(name),
-    };
-    let method = Method {
-        sig: Sig {
-            refs: 0,
-            cells: 0,
-            result: 0,
-        },
-        ref_locals: 0,
-        cell_locals,
-        body,
-        code: Items::from_vec(code),
-        handlers: Items::empty(alloc),
-    };
-    let mut types = Vec::new(alloc);
-    types.push(TypeEntry::Class(class))?;
-    let mut methods = Vec::new(alloc);
-    methods.push(method)?;
-    Ok(Image {
-        version: 1,
-        types: Items::from_vec(types),
-        selectors: Items::empty(alloc),
-        methods: Items::from_vec(methods),
-        static_refs: 0,
-        static_cells: Items::empty(alloc),
-        main: 32,
-    })
+    let length = u16::try_from(code.len()).ok().ok_or("long code")?;
+    let mut bytes = Vec::from_slice(alloc, HEAD)?;
+    bytes.extend_from_slice(&cell_locals.to_be_bytes())?;
+    bytes.extend_from_slice(&body.to_be_bytes())?;
+    bytes.extend_from_slice(&length.to_be_bytes())?;
+    bytes.extend_from_slice(code)?;
+    bytes.extend_from_slice(b"\0\0\0\0\0\0\0\x20")?;
+    match read_image(alloc, bytes.as_slice()) {
+        Ok(image) => Ok(image),
+        Err(_) => Err(Fail::from("no infusion")),
+    }
 }
 
 /// A mote with this code, and 64 cells of stack.
 fn mote_of(alloc: Global, cell_locals: u16, body: u16, code: &[u8]) -> Result<Mote, Fail> {
-    if body < cell_locals || 32763 < body || code.is_empty() || 65535 < code.len() {
-        return Err(Fail::from("not small"));
-    }
     let image = image_of(alloc, cell_locals, body, code)?;
     let checked: Checked = check(alloc, image).ok().ok_or("refused")?;
     Ok(Mote::new(alloc, checked, 64, 64).ok().ok_or("no memory")?)
@@ -359,6 +328,5 @@ fn runs_again_from_the_start(rt: HostRuntime) -> Result<(), Fail> {
         mote.name_of(4),
         b"java/lang/ArithmeticException".as_slice()
     );
-    assert_eq!(rt; mote.name_of(32), b"Hi".as_slice());
     Ok(())
 }

@@ -1,6 +1,6 @@
 use Rattle.std.proofs.Common.{◌≡◌, ◌+◌, ◌≤◌, ◌<◌, Some, sym, ap, subst, ◌∙◌, arith, rules}
 use Rattle.std.specs.Prelude.{vec_capacity}
-use Rattle.image_form.specs.SmallForm.{IsSmall}
+use Rattle.image_form.specs.Grammar.{IsImage}
 use Rattle.image_check.specs.Checked.{IsChecked, IsBuilt}
 use Rattle.mote_model.specs.Machine.{method_of, frame_cells}
 use Rattle.mote_core.proofs.Going.{going-start, ran-tall, runs-at, none-at, on-at, ends-at}
@@ -16,7 +16,7 @@ returns-then-from-need-clause-ran g c =
     let is_main = subst (λ image. method_of image image.main ≡ Some main) (c.image.ensures.all ∙ image_is) c.main_method-main.ensures in
     let tall : ready.stack < frame_cells main = omega (arith, c.if-from-need.true, c.from.ensures, c.from-need.ensures, stack_is) in
     rw c.from-need.ensures
-    (ran-tall C.left C.shown C.noted C.faults C.room ready (subst IsSmall image_is c.image.ensures.small) (subst IsChecked image_is c.image.ensures.checked) (subst IsBuilt image_is c.image.ensures.built)
+    (ran-tall C.left C.shown C.noted C.faults C.room ready (subst IsImage image_is c.image.ensures.image) (subst IsChecked image_is c.image.ensures.checked) (subst IsBuilt image_is c.image.ensures.built)
     c.args.ticks c.args.console.now main is_main tall)
 
 pub loop-insn-init : goal.loop-insn-init
@@ -29,7 +29,7 @@ loop-insn-init g c =
     let is_main = subst (λ image. method_of image image.main ≡ Some main) (c.image.ensures.all ∙ image_is) c.main_method-main.ensures in
     let fits : frame_cells main ≤ ready.stack = omega (arith, c.if-from-need.false, c.from.ensures, c.from-need.ensures, stack_is) in
     record {
-      going = going-start C.left C.shown C.noted C.faults C.room ready (subst IsSmall image_is c.image.ensures.small) (subst IsChecked image_is c.image.ensures.checked) (subst IsBuilt image_is c.image.ensures.built)
+      going = going-start C.left C.shown C.noted C.faults C.room ready (subst IsImage image_is c.image.ensures.image) (subst IsChecked image_is c.image.ensures.checked) (subst IsBuilt image_is c.image.ensures.built)
           c.args.ticks c.args.console.now _ main is_main fits c.start.ensures.pc c.start.ensures.cells c.start.ensures.left;
       room = omega (arith, c.self.invariant, c.start.ensures.room, stack_is);
     }
@@ -44,7 +44,7 @@ execute-turn-requires-clause-runs g c =
     let is_main = subst (λ image. method_of image image.main ≡ Some main) (c.image.ensures.all ∙ image_is) c.main_method-main.ensures in
     let active = c.loop-insn.self-inside.1.1.1.1.0 in
     let fits : main.body ≤ vec_capacity active.cells = omega (arith, c.if-from-need.false, c.from.ensures, c.from-need.ensures, stack_is, c.loop-insn.invariant.room) in
-    runs-at C.left C.shown C.noted C.faults C.room ready (subst IsSmall image_is c.image.ensures.small) (subst IsChecked image_is c.image.ensures.checked) (subst IsBuilt image_is c.image.ensures.built)
+    runs-at C.left C.shown C.noted C.faults C.room ready (subst IsImage image_is c.image.ensures.image) (subst IsChecked image_is c.image.ensures.checked) (subst IsBuilt image_is c.image.ensures.built)
     c.args.ticks c.args.console.now main is_main c.as_slice-code.result.now c.as_slice-code.ensures c.loop-insn.console _ c.loop-insn.invariant.going
     c.in-Some.insn c.in-Some.size (vec_capacity active.cells) (sym c.decode_at.ensures.exact ∙ c.in-Some.is) fits
 
@@ -55,7 +55,7 @@ unreachable-requires g c =
     let main = c.main_method-main.result.now in
     let image_is : c.self.inside.checked ≡ ready.image = ap (λ r. r.image) c.self.view_is in
     let is_main = subst (λ image. method_of image image.main ≡ Some main) (c.image.ensures.all ∙ image_is) c.main_method-main.ensures in
-    none-at C.left C.shown C.noted C.faults C.room ready (subst IsSmall image_is c.image.ensures.small) (subst IsChecked image_is c.image.ensures.checked) (subst IsBuilt image_is c.image.ensures.built)
+    none-at C.left C.shown C.noted C.faults C.room ready (subst IsImage image_is c.image.ensures.image) (subst IsChecked image_is c.image.ensures.checked) (subst IsBuilt image_is c.image.ensures.built)
     c.args.ticks c.args.console.now main is_main c.as_slice-code.result.now c.as_slice-code.ensures c.loop-insn.console _ c.loop-insn.invariant.going
     (sym c.decode_at.ensures.exact ∙ c.in_default.is)
 
@@ -74,7 +74,7 @@ returns-in-Err-clause-ran g c =
     let is_main = subst (λ image. method_of image image.main ≡ Some main) (c.image.ensures.all ∙ image_is) c.main_method-main.ensures in
     let active = c.loop-insn.self-inside.1.1.1.1.0 in
     let fits : main.body ≤ vec_capacity active.cells = omega (arith, c.if-from-need.false, c.from.ensures, c.from-need.ensures, stack_is, c.loop-insn.invariant.room) in
-    (ends-at C.left C.shown C.noted C.faults C.room ready (subst IsSmall image_is c.image.ensures.small) (subst IsChecked image_is c.image.ensures.checked) (subst IsBuilt image_is c.image.ensures.built)
+    (ends-at C.left C.shown C.noted C.faults C.room ready (subst IsImage image_is c.image.ensures.image) (subst IsChecked image_is c.image.ensures.checked) (subst IsBuilt image_is c.image.ensures.built)
     c.args.ticks c.args.console.now main is_main c.as_slice-code.result.now c.as_slice-code.ensures c.loop-insn.console _ c.loop-insn.invariant.going
     c.act.new.console _ c.execute-turn.new.cells.items c.in-Some.insn c.in-Some.size (vec_capacity active.cells) c.execute-turn.result
     (sym c.decode_at.ensures.exact ∙ c.in-Some.is) fits c.execute-turn.ensures.turn c.in-Err.ending c.in-Err.ensures.acts).0
@@ -89,7 +89,7 @@ returns-in-Err-clause-so_far g c =
     let is_main = subst (λ image. method_of image image.main ≡ Some main) (c.image.ensures.all ∙ image_is) c.main_method-main.ensures in
     let active = c.loop-insn.self-inside.1.1.1.1.0 in
     let fits : main.body ≤ vec_capacity active.cells = omega (arith, c.if-from-need.false, c.from.ensures, c.from-need.ensures, stack_is, c.loop-insn.invariant.room) in
-    (ends-at C.left C.shown C.noted C.faults C.room ready (subst IsSmall image_is c.image.ensures.small) (subst IsChecked image_is c.image.ensures.checked) (subst IsBuilt image_is c.image.ensures.built)
+    (ends-at C.left C.shown C.noted C.faults C.room ready (subst IsImage image_is c.image.ensures.image) (subst IsChecked image_is c.image.ensures.checked) (subst IsBuilt image_is c.image.ensures.built)
     c.args.ticks c.args.console.now main is_main c.as_slice-code.result.now c.as_slice-code.ensures c.loop-insn.console _ c.loop-insn.invariant.going
     c.act.new.console _ c.execute-turn.new.cells.items c.in-Some.insn c.in-Some.size (vec_capacity active.cells) c.execute-turn.result
     (sym c.decode_at.ensures.exact ∙ c.in-Some.is) fits c.execute-turn.ensures.turn c.in-Err.ending c.in-Err.ensures.acts).1
@@ -104,7 +104,7 @@ loop-insn-smaller g c =
     let is_main = subst (λ image. method_of image image.main ≡ Some main) (c.image.ensures.all ∙ image_is) c.main_method-main.ensures in
     let active = c.loop-insn.self-inside.1.1.1.1.0 in
     let fits : main.body ≤ vec_capacity active.cells = omega (arith, c.if-from-need.false, c.from.ensures, c.from-need.ensures, stack_is, c.loop-insn.invariant.room) in
-    (on-at C.left C.shown C.noted C.faults C.room ready (subst IsSmall image_is c.image.ensures.small) (subst IsChecked image_is c.image.ensures.checked) (subst IsBuilt image_is c.image.ensures.built)
+    (on-at C.left C.shown C.noted C.faults C.room ready (subst IsImage image_is c.image.ensures.image) (subst IsChecked image_is c.image.ensures.checked) (subst IsBuilt image_is c.image.ensures.built)
     c.args.ticks c.args.console.now main is_main c.as_slice-code.result.now c.as_slice-code.ensures c.loop-insn.console _ c.loop-insn.invariant.going
     c.act.new.console _ c.execute-turn.new.cells.items c.in-Some.insn c.in-Some.size (vec_capacity active.cells) c.execute-turn.result
     (sym c.decode_at.ensures.exact ∙ c.in-Some.is) fits c.execute-turn.ensures.turn c.in_default-act.ensures.acts).1
@@ -119,7 +119,7 @@ loop-insn-preserved g c =
     let is_main = subst (λ image. method_of image image.main ≡ Some main) (c.image.ensures.all ∙ image_is) c.main_method-main.ensures in
     let active = c.loop-insn.self-inside.1.1.1.1.0 in
     let fits : main.body ≤ vec_capacity active.cells = omega (arith, c.if-from-need.false, c.from.ensures, c.from-need.ensures, stack_is, c.loop-insn.invariant.room) in
-    let on = (on-at C.left C.shown C.noted C.faults C.room ready (subst IsSmall image_is c.image.ensures.small) (subst IsChecked image_is c.image.ensures.checked) (subst IsBuilt image_is c.image.ensures.built)
+    let on = (on-at C.left C.shown C.noted C.faults C.room ready (subst IsImage image_is c.image.ensures.image) (subst IsChecked image_is c.image.ensures.checked) (subst IsBuilt image_is c.image.ensures.built)
     c.args.ticks c.args.console.now main is_main c.as_slice-code.result.now c.as_slice-code.ensures c.loop-insn.console _ c.loop-insn.invariant.going
     c.act.new.console _ c.execute-turn.new.cells.items c.in-Some.insn c.in-Some.size (vec_capacity active.cells) c.execute-turn.result
     (sym c.decode_at.ensures.exact ∙ c.in-Some.is) fits c.execute-turn.ensures.turn c.in_default-act.ensures.acts) in
