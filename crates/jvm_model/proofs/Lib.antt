@@ -1,4 +1,5 @@
 pub mod CodeBody
+pub mod EarlyPhases
 pub mod VerdictLaws
 pub mod Reading
 pub mod NumberSteps

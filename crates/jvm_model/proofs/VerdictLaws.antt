@@ -1,23 +1,21 @@
 -- The verdict is one: a set is accepted or refused, and in one way.
-use Rattle.std.proofs.Common.{◌≡◌, ℕ, ◌<◌, ◌≤◌, List, [], ◌∷◌, length, take, Result, Ok, Err, refl, sym, ap, subst, ◌∙◌, arith}
-use Rattle.std.proofs.lemmas.Option.{same_Some}
+use Rattle.std.proofs.Common.{◌≡◌, ◌⊎◌, inl, inr, ℕ, ◌<◌, ◌≤◌, List, [], ◌∷◌, length, Option, Some, None, Result, Ok, refl, sym, ap, subst, ◌∙◌, arith}
+use Rattle.std.proofs.lemmas.Option.{none-some, same_Some}
 use Rattle.class_file.specs.declared.record.ClassFile.{ClassFile}
 use Rattle.class_file.specs.declared.record.CodeAttr.{CodeAttr}
 use Rattle.class_file.specs.declared.record.Member.{Member}
 use Rattle.class_file.specs.declared.refusal.ReadRefusal.{ReadRefusal}
-use Rattle.class_file.specs.declared.refusal.ReadRefusal.TheVariants as reading
-use Rattle.class_file.specs.Layout.{magic}
-use Rattle.class_file.proofs.Class.{class_again}
-use Rattle.class_file.proofs.ReadingLaws.{no_class_exactly}
-use Rattle.jvm_model.specs.declared.refusal.Cause.{Cause}
-use Rattle.jvm_model.specs.declared.refusal.Cause.TheVariants.{NotClass, Unbuilt, FrameTooLarge, CodeTooLong, Memory}
+use Rattle.class_file.proofs.Whole.{file_again}
+use Rattle.jvm_model.specs.declared.refusal.Cause.TheVariants.{FrameTooLarge, CodeTooLong}
 use Rattle.jvm_model.specs.declared.refusal.Refusal.{Refusal}
 use Rattle.jvm_model.specs.Body.{Body}
 use Rattle.jvm_model.specs.ProgramOf.{body_of}
 use Rattle.jvm_model.specs.NumberForm.{HasNumberMain}
 use Rattle.jvm_model.specs.FrameCells.{frame_cells}
 use Rattle.jvm_model.specs.ImageOf.{code_for}
-use Rattle.jvm_model.specs.Accepted.{most_frame_cells, most_code_bytes, IsNumberFile, IsAccepted, refusal_of_main, HasLargeFrame, HasLongCode, FailsFor, IsRefused}
+use Rattle.jvm_model.specs.Phases.{early_refusal}
+use Rattle.jvm_model.specs.Accepted.{most_frame_cells, most_code_bytes, IsNumberFile, IsAccepted, refusal_of_main, IsUnbuilt, HasLargeFrame, HasLongCode, FailsLate, IsRefused}
+use Rattle.jvm_model.proofs.EarlyPhases.{no_early}
 
 -- ---- one record, one code, one body
 
@@ -26,9 +24,6 @@ read file = Ok file
 
 same_read : (a b : ClassFile) → read a ≡ read b → a ≡ b
 same_read a b e = cc
-
-read_is_none : (file : ClassFile) (why : ReadRefusal) → read file ≡ Err why → ⊥
-read_is_none file why e = cc
 
 same_one : (a b : Member) → a ∷ [] ≡ b ∷ [] → a ≡ b
 same_one a b e = cc
@@ -45,86 +40,74 @@ one_main file code body second last a b =
 
 pub one_number_file : (bytes : List ℕ) (file : ClassFile) (code : CodeAttr) (body : Body) (other : ClassFile) (second : CodeAttr) (last : Body) → IsNumberFile bytes file code body → IsNumberFile bytes other second last → AreSame file code body other second last
 one_number_file bytes file code body other second last a b =
-    let files : file ≡ other = same_read file other (sym (class_again bytes file a.class_file) ∙ class_again bytes other b.class_file) in
+    let files : file ≡ other = same_read file other (sym (file_again bytes file a.class_file.class_file) ∙ file_again bytes other b.class_file.class_file) in
     let mains = one_main other code body second last (subst (λ (f : ClassFile). HasNumberMain f code body) files a.main) b.main in
     (files, mains.0, mains.1)
 
 -- ---- acceptances and refusals
 
-begins : (bytes : List ℕ) (file : ClassFile) (code : CodeAttr) (body : Body) → IsNumberFile bytes file code body → (take 4 bytes ≡ magic → ⊥) → ⊥
-begins bytes file code body is not = read_is_none file reading.NotClass (sym (class_again bytes file is.class_file) ∙ (no_class_exactly bytes).1 not)
+same_bytes : (x y : List ℕ) → x ∷ [] ≡ y ∷ [] → x ≡ y
+same_bytes x y e = cc
+
+-- one set has one file of the number form
+pub one_of_set : (files : List (List ℕ)) (bytes other : List ℕ) → files ≡ bytes ∷ [] → files ≡ other ∷ [] → (file : ClassFile) (code : CodeAttr) (body : Body) (second : ClassFile) (rest : CodeAttr) (last : Body)
+    → IsNumberFile bytes file code body → IsNumberFile other second rest last → AreSame file code body second rest last
+one_of_set files bytes other e f file code body second rest last a b =
+    one_number_file other file code body second rest last (subst (λ (x : List ℕ). IsNumberFile x file code body) (same_bytes bytes other (sym e ∙ f)) a) b
 
 same_cells : (code other : CodeAttr) (body last : Body) → code ≡ other → body ≡ last → frame_cells code.max_locals body ≡ frame_cells other.max_locals last
 same_cells code other body last a b = ap (λ (c : CodeAttr). frame_cells c.max_locals body) a ∙ ap (frame_cells other.max_locals) b
 
-frames-same : (bytes : List ℕ) (file : ClassFile) (code : CodeAttr) (body : Body) (other : ClassFile) (second : CodeAttr) (last : Body) → IsNumberFile bytes file code body → IsNumberFile bytes other second last → frame_cells code.max_locals body ≡ frame_cells second.max_locals last
-frames-same bytes file code body other second last a b =
-    let same = one_number_file bytes file code body other second last a b in
-    same_cells code second body last same.1 same.2
-
-lengths-same : (bytes : List ℕ) (file : ClassFile) (code : CodeAttr) (body : Body) (other : ClassFile) (second : CodeAttr) (last : Body) → IsNumberFile bytes file code body → IsNumberFile bytes other second last → length (code_for body) ≡ length (code_for last)
-lengths-same bytes file code body other second last a b =
-    let same = one_number_file bytes file code body other second last a b in
-    ap (λ (x : Body). length (code_for x)) same.2
+same_size : (body last : Body) → body ≡ last → length (code_for body) ≡ length (code_for last)
+same_size body last e = ap (λ (x : Body). length (code_for x)) e
 
 -- no file is both within its limits and past one
 over_and_under : (limit a b : ℕ) → a ≡ b → limit < a → b ≤ limit → ⊥
 over_and_under limit a b same over under = omega arith
 
-not_both : (bytes : List ℕ) (file : ClassFile) (code : CodeAttr) (body : Body) → IsNumberFile bytes file code body → frame_cells code.max_locals body ≤ most_frame_cells → length (code_for body) ≤ most_code_bytes → (cause : Cause) (value : ℕ) → FailsFor bytes cause value → ⊥
-not_both bytes file code body is frame long NotClass value fails = begins bytes file code body is fails.0
-not_both bytes file code body is frame long Unbuilt value fails = fails.0.none file code body is
-not_both bytes file code body is frame long FrameTooLarge value fails =
-    over_and_under most_frame_cells (frame_cells fails.code.max_locals fails.body) (frame_cells code.max_locals body) (frames-same bytes fails.file fails.code fails.body file code body fails.number_file is) fails.exceeds frame
-not_both bytes file code body is frame long CodeTooLong value fails =
-    over_and_under most_code_bytes (length (code_for fails.body)) (length (code_for body)) (lengths-same bytes fails.file fails.code fails.body file code body fails.number_file is) fails.exceeds long
-not_both bytes file code body is frame long Memory value fails = fails
+accepted_early : (files : List (List ℕ)) (file : ClassFile) (code : CodeAttr) (body : Body) → IsAccepted files file code body → early_refusal files ≡ None
+accepted_early files file code body accepted = ap early_refusal accepted.files_are ∙ no_early accepted.bytes file code body accepted.number_file
+
+not_late : (files : List (List ℕ)) (file : ClassFile) (code : CodeAttr) (body : Body) → (a : IsAccepted files file code body) → (refusal : Refusal) → FailsLate files refusal → ⊥
+not_late files file code body a refusal (inl unbuilt) = unbuilt.none a.bytes file code body a.files_are a.number_file
+not_late files file code body a refusal (inr (inl large)) =
+    let same = one_of_set files large.bytes a.bytes large.files_are a.files_are large.file large.code large.body file code body large.number_file a.number_file in
+    over_and_under most_frame_cells (frame_cells large.code.max_locals large.body) (frame_cells code.max_locals body) (same_cells large.code code large.body body same.1 same.2) large.exceeds a.frame_fits
+not_late files file code body a refusal (inr (inr long)) =
+    let same = one_of_set files long.bytes a.bytes long.files_are a.files_are long.file long.code long.body file code body long.number_file a.number_file in
+    over_and_under most_code_bytes (length (code_for long.body)) (length (code_for body)) (same_size long.body body same.2) long.exceeds a.code_fits
 
 pub accepted_or_refused : (files : List (List ℕ)) (file : ClassFile) (code : CodeAttr) (body : Body) (refusal : Refusal) → IsAccepted files file code body → IsRefused files refusal → ⊥
-accepted_or_refused files file code body refusal accepted refused =
-    let one = subst (λ (fs : List (List ℕ)). IsRefused fs refusal) accepted.files_are refused in
-    not_both accepted.bytes file code body accepted.number_file accepted.frame_fits accepted.code_fits refusal.cause refusal.value one.0
+accepted_or_refused files file code body refusal accepted (inl early) = none-some refusal (sym (accepted_early files file code body accepted) ∙ early)
+accepted_or_refused files file code body refusal accepted (inr late) = not_late files file code body accepted refusal late.1
 
 pub one_acceptance : (files : List (List ℕ)) (file : ClassFile) (code : CodeAttr) (body : Body) (other : ClassFile) (second : CodeAttr) (last : Body) → IsAccepted files file code body → IsAccepted files other second last → AreSame file code body other second last
-one_acceptance files file code body other second last a b =
-    let same : a.bytes ≡ b.bytes = same_bytes a.bytes b.bytes (sym a.files_are ∙ b.files_are) in
-    one_number_file b.bytes file code body other second last (subst (λ (bytes : List ℕ). IsNumberFile bytes file code body) same a.number_file) b.number_file
-  where
-    same_bytes : (x y : List ℕ) → x ∷ [] ≡ y ∷ [] → x ≡ y
-    same_bytes x y e = cc
+one_acceptance files file code body other second last a b = one_of_set files a.bytes b.bytes a.files_are b.files_are file code body other second last a.number_file b.number_file
 
 -- ---- one refusal
 
-abbrev AreOne : Cause → ℕ → Cause → ℕ → Type 0
-AreOne a v b w = (a ≡ b) × (v ≡ w)
+large_long : (files : List (List ℕ)) (a b : Refusal) → HasLargeFrame files a → HasLongCode files b → ⊥
+large_long files a b x y =
+    let same = one_of_set files x.bytes y.bytes x.files_are y.files_are x.file x.code x.body y.file y.code y.body x.number_file y.number_file in
+    over_and_under most_frame_cells (frame_cells x.code.max_locals x.body) (frame_cells y.code.max_locals y.body) (same_cells x.code y.code x.body y.body same.1 same.2) x.exceeds y.frame_fits
 
-frame-and-long : (bytes : List ℕ) (v w : ℕ) → HasLargeFrame bytes v → HasLongCode bytes w → ⊥
-frame-and-long bytes v w a b =
-    over_and_under most_frame_cells (frame_cells a.code.max_locals a.body) (frame_cells b.code.max_locals b.body) (frames-same bytes a.file a.code a.body b.file b.code b.body a.number_file b.number_file) a.exceeds b.frame_fits
-
-fails-one : (bytes : List ℕ) (a b : Cause) (v w : ℕ) → FailsFor bytes a v → FailsFor bytes b w → AreOne a v b w
-fails-one bytes NotClass NotClass v w x y = (refl, x.1 ∙ sym y.1)
-fails-one bytes NotClass Unbuilt v w x y = absurd (x.0 y.0.begins)
-fails-one bytes NotClass FrameTooLarge v w x y = absurd (begins bytes y.file y.code y.body y.number_file x.0)
-fails-one bytes NotClass CodeTooLong v w x y = absurd (begins bytes y.file y.code y.body y.number_file x.0)
-fails-one bytes Unbuilt NotClass v w x y = absurd (y.0 x.0.begins)
-fails-one bytes Unbuilt Unbuilt v w x y = (refl, x.1 ∙ sym y.1)
-fails-one bytes Unbuilt FrameTooLarge v w x y = absurd (x.0.none y.file y.code y.body y.number_file)
-fails-one bytes Unbuilt CodeTooLong v w x y = absurd (x.0.none y.file y.code y.body y.number_file)
-fails-one bytes FrameTooLarge NotClass v w x y = absurd (begins bytes x.file x.code x.body x.number_file y.0)
-fails-one bytes FrameTooLarge Unbuilt v w x y = absurd (y.0.none x.file x.code x.body x.number_file)
-fails-one bytes FrameTooLarge FrameTooLarge v w x y = (refl, x.is ∙ frames-same bytes x.file x.code x.body y.file y.code y.body x.number_file y.number_file ∙ sym y.is)
-fails-one bytes FrameTooLarge CodeTooLong v w x y = absurd (frame-and-long bytes v w x y)
-fails-one bytes CodeTooLong NotClass v w x y = absurd (begins bytes x.file x.code x.body x.number_file y.0)
-fails-one bytes CodeTooLong Unbuilt v w x y = absurd (y.0.none x.file x.code x.body x.number_file)
-fails-one bytes CodeTooLong FrameTooLarge v w x y = absurd (frame-and-long bytes w v y x)
-fails-one bytes CodeTooLong CodeTooLong v w x y = (refl, x.is ∙ lengths-same bytes x.file x.code x.body y.file y.code y.body x.number_file y.number_file ∙ sym y.is)
-fails-one bytes Memory b v w x y = absurd x
-fails-one bytes a Memory v w x y = absurd y
+late_one : (files : List (List ℕ)) (a b : Refusal) → FailsLate files a → FailsLate files b → a ≡ b
+late_one files a b (inl x) (inl y) = x.is ∙ sym y.is
+late_one files a b (inl x) (inr (inl y)) = absurd (x.none y.bytes y.file y.code y.body y.files_are y.number_file)
+late_one files a b (inl x) (inr (inr y)) = absurd (x.none y.bytes y.file y.code y.body y.files_are y.number_file)
+late_one files a b (inr (inl x)) (inl y) = absurd (y.none x.bytes x.file x.code x.body x.files_are x.number_file)
+late_one files a b (inr (inr x)) (inl y) = absurd (y.none x.bytes x.file x.code x.body x.files_are x.number_file)
+late_one files a b (inr (inl x)) (inr (inl y)) =
+    let same = one_of_set files x.bytes y.bytes x.files_are y.files_are x.file x.code x.body y.file y.code y.body x.number_file y.number_file in
+    x.is ∙ ap (refusal_of_main FrameTooLarge) (same_cells x.code y.code x.body y.body same.1 same.2) ∙ sym y.is
+late_one files a b (inr (inr x)) (inr (inr y)) =
+    let same = one_of_set files x.bytes y.bytes x.files_are y.files_are x.file x.code x.body y.file y.code y.body x.number_file y.number_file in
+    x.is ∙ ap (refusal_of_main CodeTooLong) (same_size x.body y.body same.2) ∙ sym y.is
+late_one files a b (inr (inl x)) (inr (inr y)) = absurd (large_long files a b x y)
+late_one files a b (inr (inr x)) (inr (inl y)) = absurd (large_long files b a y x)
 
 pub one_refusal : (files : List (List ℕ)) (a b : Refusal) → IsRefused files a → IsRefused files b → a ≡ b
-one_refusal [] a b x y = x ∙ sym y
-one_refusal (bytes ∷ []) a b x y =
-    let one = fails-one bytes a.cause b.cause a.value b.value x.0 y.0 in
-    x.1 ∙ ap (λ (c : Cause). refusal_of_main c a.value) one.0 ∙ ap (refusal_of_main b.cause) one.1 ∙ sym y.1
-one_refusal (bytes ∷ more ∷ files) a b x y = x ∙ sym y
+one_refusal files a b (inl x) (inl y) = same_Some a b (sym x ∙ y)
+one_refusal files a b (inl x) (inr y) = absurd (none-some a (sym y.0 ∙ x))
+one_refusal files a b (inr x) (inl y) = absurd (none-some b (sym x.0 ∙ y))
+one_refusal files a b (inr x) (inr y) = late_one files a b x.1 y.1

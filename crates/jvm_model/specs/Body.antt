@@ -4,8 +4,8 @@ use Rattle.class_code.specs.declared.insn.ValueKind.TheVariants as value
 use Rattle.class_code.specs.declared.insn.Insn.{Insn}
 use Rattle.class_code.specs.declared.insn.Insn.TheVariants as insns
 use Rattle.class_code.specs.Code.{Insns}
-use Rattle.class_file.specs.Pool.{Places, integer_at}
-use Rattle.class_file.specs.Members.{MemberName, method_name_at, is_member}
+use Rattle.class_pool.specs.Pool.{Places, integer_at}
+use Rattle.class_pool.specs.Members.{MemberName, method_name_at, is_member}
 use Rattle.jvm_model.specs.State.{Whole}
 use Rattle.jvm_model.specs.Program.{Native, WriteByte, PrintNumber, ReadByte, OfLibrary, Family, Nop, Const, Load, Store, Inc, Stack, Bin, Negate, Convert, If, IfCmp, Goto, Switch, CallStatic, Return, Placed}
 

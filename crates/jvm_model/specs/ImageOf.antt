@@ -3,7 +3,7 @@ use Rattle.std.specs.Prelude.{ℕ, List, []}
 use Rattle.std.specs.Prelude.{unwrap_or}
 use Rattle.class_file.specs.declared.record.ClassFile.{ClassFile}
 use Rattle.class_file.specs.declared.record.CodeAttr.{CodeAttr}
-use Rattle.class_file.specs.Pool.{class_name_at}
+use Rattle.class_pool.specs.Pool.{class_name_at}
 use Rattle.image_form.specs.declared.record.Image.{Image}
 use Rattle.image_form.specs.SmallForm.{small_class, small_method, small_image}
 use Rattle.jvm_model.specs.Body.{Body}

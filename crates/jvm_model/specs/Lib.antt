@@ -7,4 +7,5 @@ pub mod NumberForm
 pub mod FrameCells
 pub mod Expansion
 pub mod ImageOf
+pub mod Phases
 pub mod Accepted

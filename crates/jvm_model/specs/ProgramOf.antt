@@ -5,7 +5,7 @@ use Rattle.class_code.specs.Code.{Insns, decoded}
 use Rattle.class_file.specs.declared.record.ClassFile.{ClassFile}
 use Rattle.class_file.specs.declared.record.Member.{Member}
 use Rattle.class_file.specs.declared.record.CodeAttr.{CodeAttr}
-use Rattle.class_file.specs.Pool.{Places}
+use Rattle.class_pool.specs.Pool.{Places}
 use Rattle.jvm_model.specs.Program.{Placed, Program}
 use Rattle.jvm_model.specs.Body.{Body, families_of, placed_in}
 
