@@ -14,8 +14,8 @@ use Rattle.class_code.proofs.Laws.{code-found}
 use Rattle.class_code.proofs.Shorter.{insn_at-shorter}
 use Rattle.class_code.proofs.Numbers.{HasNumbers, IsSwitch, stand-numbers}
 use Rattle.class_file.specs.declared.record.CodeAttr.{CodeAttr}
-use Rattle.class_file.specs.Pool.{Places, integer_at, FitsEntry, EachEntry}
-use Rattle.class_file.specs.Members.{method_name_at}
+use Rattle.class_pool.specs.Pool.{Places, integer_at, FitsEntry, EachEntry}
+use Rattle.class_pool.specs.Members.{method_name_at}
 use Rattle.jvm_model.specs.State.{Whole}
 use Rattle.jvm_model.specs.Program.{OfLibrary, Family, Nop, Const, Load, Store, Inc, Stack, Bin, Negate, Convert, If, IfCmp, Goto, Switch, CallStatic, Return}
 use Rattle.jvm_model.specs.Body.{Body, native_of, family_of, families_of}

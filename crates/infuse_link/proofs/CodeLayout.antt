@@ -7,7 +7,7 @@ use Rattle.class_code.specs.declared.insn.SwitchForm.TheVariants as switch
 use Rattle.class_code.specs.declared.insn.SwitchRow.{SwitchRow}
 use Rattle.class_file.specs.declared.record.ClassFile.{ClassFile}
 use Rattle.class_file.specs.declared.record.CodeAttr.{CodeAttr}
-use Rattle.class_file.specs.Pool.{FitsEntry, EachEntry}
+use Rattle.class_pool.specs.Pool.{FitsEntry, EachEntry}
 use Rattle.image_instr.specs.Insn.{IsInsn}
 use Rattle.jvm_model.specs.State.{Whole, Null, Name}
 use Rattle.jvm_model.specs.Program.{Family, Nop, Const, Load, Store, Inc, Stack, Bin, Negate, Convert, If, IfCmp, Goto, Switch, CallStatic, Return, Placed}
@@ -90,8 +90,8 @@ module _ (files : List (List ℕ)) (file : ClassFile) (code : CodeAttr) (body : 
 
   pub pool_fits : EachEntry FitsEntry file.pool
   pool_fits =
-      let one = accepted.number_file.class_file in
-      subst (λ (f : ClassFile). EachEntry FitsEntry f.pool) (sym one.class_file.stands) one.class_file.fits.pool
+      let laid = accepted.number_file.class_file.class_file.1 in
+      subst (λ (f : ClassFile). EachEntry FitsEntry f.pool) (sym laid.stands) laid.regular.is_pool.fits
 
   pub decoded : IsDecoded code body
   decoded = let main = accepted.number_file.main in body_decoded file.pool code body pool_fits main.is_body

@@ -1,4 +1,4 @@
--- The image of an accepted set is small, checked and built.
+-- The image of an accepted set is of the grammar, checked and built.
 use Rattle.std.proofs.Common.{◌≡◌, ℕ, ◌+◌, ◌<◌, true, List, [], ◌∷◌, length, refl, ap, subst, arith, inl, inr}
 use Rattle.std.specs.List.{AllByRecursion}
 use Rattle.std.proofs.lemmas.List.{length-append}
@@ -6,7 +6,9 @@ use Rattle.class_file.specs.declared.record.ClassFile.{ClassFile}
 use Rattle.class_file.specs.declared.record.CodeAttr.{CodeAttr}
 use Rattle.image_form.specs.declared.record.Image.{Image}
 use Rattle.image_form.specs.declared.record.Method.{Method}
+use Rattle.image_form.specs.Grammar.{IsImage}
 use Rattle.image_form.specs.SmallForm.{small_class, small_method, IsSmall}
+use Rattle.image_form.proofs.SmallImage.{small_is_image}
 use Rattle.image_check.specs.Checked.{IsChecked, IsBuilt}
 use Rattle.jvm_model.specs.Program.{Family}
 use Rattle.jvm_model.specs.Body.{Body}
@@ -83,9 +85,9 @@ module _ (files : List (List ℕ)) (file : ClassFile) (code : CodeAttr) (body : 
   image_checked = (method_checked (image_of file code body) (main_method code body) (instructions body) code_is last.0 last.1 good, tt)
 
   pub image_built : IsBuilt (image_of file code body)
-  image_built = (method_built (image_of file code body) (main_method code body) (instructions body) code_is last.0 last.1 good, tt)
+  image_built = record { form = refl; methods = (method_built (image_of file code body) (main_method code body) (instructions body) code_is last.0 last.1 good, tt) }
 
-  pub image_small : IsSmall (image_of file code body)
+  image_small : IsSmall (image_of file code body)
   image_small = record {
     class = small_class object_id (name_of_class file);
     method = main_method code body;
@@ -109,3 +111,6 @@ module _ (files : List (List ℕ)) (file : ClassFile) (code : CodeAttr) (body : 
       code_fits = accepted.code_fits;
     };
   }
+
+  pub image_is_image : IsImage (image_of file code body)
+  image_is_image = small_is_image (image_of file code body) image_small

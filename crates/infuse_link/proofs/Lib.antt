@@ -14,6 +14,9 @@ pub mod ImageChecked
 pub mod RunsAlike
 pub mod Images
 pub mod NumberBodies
+pub mod PlainInsns
+pub mod Scans
+pub mod ReadSets
 pub mod Verdicts
 pub mod SetElements
 pub mod Belong

@@ -4,7 +4,7 @@ use Rattle.std.specs.Prelude.{if◌then◌else◌, option_and_then}
 use Rattle.std.specs.List.{AllByRecursion}
 use Rattle.class_code.specs.declared.insn.Insn.{Insn}
 use Rattle.class_code.specs.Code.{Insns, RiseFrom}
-use Rattle.class_file.specs.Pool.{Places}
+use Rattle.class_pool.specs.Pool.{Places}
 use Rattle.jvm_model.specs.Program.{Family}
 use Rattle.jvm_model.specs.Body.{Body, family_of, families_of}
 use Rattle.jvm_model.specs.NumberForm.{is_of_form}

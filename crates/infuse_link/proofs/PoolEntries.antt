@@ -2,9 +2,9 @@
 use Rattle.std.proofs.Common.{◌≡◌, ℕ, ℤ, zero, suc, ◌<◌, ◌^◌, List, [], ◌∷◌, length, Option, Some, None, refl, subst, FitsSigned, w32, arith}
 use Rattle.std.specs.Prelude.{option_and_then, slice_get, unwrap_or}
 use Rattle.std.proofs.lemmas.Option.{none-some, same_Some, option_and_then_some}
-use Rattle.class_file.specs.declared.pool.Const.{Const}
-use Rattle.class_file.specs.declared.pool.Const.TheVariants.{Utf8, Integer, Float, Long, Double, Class, String, Field, Method, InterfaceMethod, NameAndType, MethodHandle, MethodType, InvokeDynamic}
-use Rattle.class_file.specs.Pool.{Places, entry_at, text_of, integer_of, class_of, utf8_at, integer_at, class_name_at, FitsEntry, EachEntry}
+use Rattle.class_pool.specs.declared.pool.Const.{Const}
+use Rattle.class_pool.specs.declared.pool.Const.TheVariants.{Utf8, Integer, Float, Long, Double, Class, String, Field, Method, InterfaceMethod, NameAndType, MethodHandle, MethodType, InvokeDynamic}
+use Rattle.class_pool.specs.Pool.{Places, entry_at, text_of, integer_of, class_of, utf8_at, integer_at, class_name_at, FitsEntry, EachEntry}
 
 abbrev itself : Option Const → Option Const
 itself entry = entry
@@ -22,7 +22,7 @@ entry_has P pool (suc place) entry each e = place_has P pool place entry each e
 
 integer_fits : (entry : Const) (number : ℤ) → FitsEntry entry → integer_of entry ≡ Some number → FitsSigned w32 number
 integer_fits (Utf8 text) number fits e = absurd (none-some number e)
-integer_fits (Integer value) number fits e = subst (FitsSigned w32) (same_Some value number e) fits
+integer_fits (Integer value) number fits e = subst (FitsSigned w32) (same_Some value number e) fits.0
 integer_fits (Float bits) number fits e = absurd (none-some number e)
 integer_fits (Long bits) number fits e = absurd (none-some number e)
 integer_fits (Double bits) number fits e = absurd (none-some number e)

@@ -5,7 +5,7 @@ use Rattle.std.proofs.lemmas.List.{append-nil}
 use Rattle.std.specs.Prelude.{option_and_then}
 use Rattle.class_code.specs.declared.insn.Insn.{Insn}
 use Rattle.class_code.specs.Code.{Insns}
-use Rattle.class_file.specs.Pool.{Places}
+use Rattle.class_pool.specs.Pool.{Places}
 use Rattle.jvm_model.specs.Program.{Family}
 use Rattle.jvm_model.specs.Body.{Body, family_of}
 use Rattle.jvm_model.specs.NumberForm.{pops, height_behind}

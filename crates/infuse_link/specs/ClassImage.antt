@@ -12,7 +12,7 @@ use Rattle.jvm_model.specs.ProgramOf.{body_of}
 use Rattle.jvm_model.specs.NumberForm.{HasNumberForm, HasNumberMain}
 use Rattle.jvm_model.specs.FrameCells.{frame_cells}
 use Rattle.jvm_model.specs.ImageOf.{code_for, image_of}
-use Rattle.jvm_model.specs.Accepted.{IsRefused, most_frame_cells, most_code_bytes, refusal_of_main}
+use Rattle.jvm_model.specs.Accepted.{IsRefused, most_frame_cells, most_code_bytes}
 use Rattle.infuse_link.specs.declared.stop.Stop.{Stop}
 use Rattle.infuse_link.specs.declared.stop.Stop.TheVariants.{Unbuilt, FrameTooLarge, CodeTooLong, Memory}
 use Rattle.infuse_link.specs.Infused.{IsInfused}
@@ -73,13 +73,6 @@ FormStopsFor code body Unbuilt = HasNumberForm code body → ⊥
 FormStopsFor code body (FrameTooLarge cells) = ⊥
 FormStopsFor code body (CodeTooLong bytes) = ⊥
 FormStopsFor code body Memory = Unit {0}
-
--- the refusal of the one file
-abbrev pub refusal_for : Stop → Refusal
-refusal_for Unbuilt = refusal_of_main cause.Unbuilt 0
-refusal_for (FrameTooLarge cells) = refusal_of_main cause.FrameTooLarge cells
-refusal_for (CodeTooLong bytes) = refusal_of_main cause.CodeTooLong bytes
-refusal_for Memory = refusal_of_main cause.Memory 0
 
 -- the set is refused so, or there was no memory
 abbrev pub RefusedOrMemory : List (List ℕ) → Refusal → Type 0

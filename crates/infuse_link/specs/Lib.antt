@@ -5,3 +5,4 @@ pub mod Tests
 pub mod Reach
 pub mod Offsets
 pub mod ClassImage
+pub mod Sets

@@ -2,7 +2,7 @@
 use Rattle.std.specs.Prelude.{◌≡◌, ℕ, if◌then◌else◌, List, [], ◌∷◌, ◌++◌, map, Option, Some, None, option_map, option_and_then, Result, Ok, Err}
 use Rattle.class_code.specs.declared.insn.StackForm.TheVariants as form
 use Rattle.class_code.specs.Code.{Insns}
-use Rattle.class_file.specs.Pool.{Places}
+use Rattle.class_pool.specs.Pool.{Places}
 use Rattle.jvm_model.specs.State.{Whole}
 use Rattle.jvm_model.specs.Program as program
 use Rattle.jvm_model.specs.Body.{Body, family_of}

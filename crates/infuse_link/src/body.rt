@@ -10,7 +10,7 @@ use crate::marks::{has, mark};
 use crate::number_insn::{NumberInsn, of_form};
 use crate::stop::Stop;
 use class_code::{Insn, SwitchRow};
-use class_file::Pool;
+use class_pool::Pool;
 use std::alloc::{AllocError, Global};
 
 /// An instruction with its pc.

@@ -1,4 +1,4 @@
-//! From a class file of one main to its image.
+//! From a set of class files to its image.
 
 ghost use Rattle.std.specs.Prelude.{◌≡◌, ℕ, ◌≤◌, ◌⊎◌, true, List, [], ◌∷◌, map, Ok, Err, IfOk, IfErr};
 ghost use Rattle.std.specs.List.{AllByRecursion};
@@ -6,7 +6,8 @@ ghost use Rattle.std.specs.Option.{option_copied};
 ghost use Rattle.dialogue.specs.Limits.{Limits};
 ghost use Rattle.class_file.specs.declared.record.ClassFile.{ClassFile as Record};
 ghost use Rattle.class_file.specs.declared.record.CodeAttr.{CodeAttr as MainCode};
-ghost use Rattle.image_form.specs.SmallForm.{small_class, small_method, small_image, IsSmall};
+ghost use Rattle.image_form.specs.Grammar.{IsImage};
+ghost use Rattle.image_form.specs.SmallForm.{small_class, small_method, small_image};
 ghost use Rattle.image_check.specs.Checked.{IsChecked, IsBuilt};
 ghost use Rattle.jvm_model.specs.declared.refusal.Cause.TheVariants as cause;
 ghost use Rattle.jvm_model.specs.declared.refusal.Refusal.{Refusal as Reason};
@@ -18,19 +19,22 @@ ghost use Rattle.jvm_model.specs.ImageOf.{object_id, name_of_class, image_of};
 ghost use Rattle.jvm_model.specs.Accepted.{IsAccepted, IsRefused, refusal_of_main};
 ghost use Rattle.infuse_link.specs.declared.stop.Stop.TheVariants.{Memory};
 ghost use Rattle.infuse_link.specs.Infused.{IsInfused, Gives};
+ghost use Rattle.infuse_link.specs.Sets.{IsRecord, IsOneClass, SetStopsFor, RefusesFor};
 ghost use Rattle.infuse_link.specs.RunsAlike.{RunsAlike};
 ghost use Rattle.infuse_link.specs.NumberInsns.{body_meant};
 ghost use Rattle.infuse_link.specs.Reach.{RisesFrom};
-ghost use Rattle.infuse_link.specs.ClassImage.{IsFile, HasBody, IsClassImage, StopsFor, FormStopsFor, RefusedOrMemory, only_code, refusal_for as refusal_for_of};
+ghost use Rattle.infuse_link.specs.ClassImage.{IsFile, HasBody, IsClassImage, StopsFor, FormStopsFor, RefusedOrMemory, only_code};
 
 use crate::body::{Placed, arrivals_of, ends, heights, locals_below, number_body};
 use crate::emit::emitted;
 use crate::locals::{are_written, slots_of};
 use crate::offsets::offsets_of;
+use crate::outside::unbuilt;
 use crate::reach::are_reached;
+use crate::sets::{read_files, test_classes, test_size};
 use crate::stop::Stop;
 use class_code::{CodeRefusal, decode};
-use class_file::{ClassFile, CodeAttr, ReadRefusal, read_class};
+use class_file::{ClassFile, CodeAttr, is_one_main};
 use image_form::{ClassEntry, Image, Method, TypeEntry};
 use image_instr::Sig;
 use item_list::Items;
@@ -43,9 +47,9 @@ const MOST_FRAME_CELLS: u32 = 32_767;
 /// The most bytes of a method's machine code.
 const MOST_CODE_BYTES: u32 = 65_535;
 
-/// Turns a set of class files into the image of its main. A set is one file so far. A file that is
-/// refused is named by its place, 0, and so is main, 0; the value of a refusal is a number of cells or
-/// of bytes where the cause says so, and else 0.
+/// Turns a set of class files into the image of its main. An accepted set is one file so far. A refusal
+/// is the first one in the order of `Cause`: a file is named by its place in the set, a method by its
+/// place in its class, an instruction by its pc.
 pub fn infuse(alloc: Global, files: &[Vec<u8>]) -> Result<Image, Refusal>
     // What is answered is the image of the set, and the image of an accepted set is answered.
     ensures found { IfOk result (IsInfused (map (λ v. v.items) files.now)) }
@@ -55,8 +59,8 @@ pub fn infuse(alloc: Global, files: &[Vec<u8>]) -> Result<Image, Refusal>
     ensures refused { IfErr result (λ why. (why.cause ≡ cause.Memory) ⊎ IsRefused (map (λ v. v.items) files.now) why) }
     ensures refused_only { (why : Reason) → IsRefused (map (λ v. v.items) files.now) why → Gives result (Err why) }
 
-    // The image is small, keeps the rules of the check, and is run.
-    ensures small { IfOk result IsSmall }
+    // The image is of the grammar, keeps the rules of the check, and is run.
+    ensures image { IfOk result IsImage }
     ensures checked { IfOk result IsChecked }
     ensures built { IfOk result IsBuilt }
 
@@ -67,18 +71,33 @@ pub fn infuse(alloc: Global, files: &[Vec<u8>]) -> Result<Image, Refusal>
     infuse_set(alloc, files)
 }
 
-/// The image of the one file of a set.
+/// The image of a set of files.
 fn infuse_set(alloc: Global, files: &[Vec<u8>]) -> Result<Image, Refusal>
     ensures found { IfOk result (IsInfused (map (λ v. v.items) files.now)) }
     ensures refused { IfErr result (RefusedOrMemory (map (λ v. v.items) files.now)) }
 {
-    match files {
-        [bytes] => infuse_file(alloc, bytes.as_slice()),
-        _ => Err(refusal(Cause::Unbuilt, 0)),
+    test_size(files)?;
+    let classes = read_files(alloc, files)?;
+    test_classes(alloc, classes.as_slice())?;
+    match infuse_classes(alloc, classes.as_slice()) {
+        Ok(image) => Ok(image),
+        Err(why) => Err(refusal_for(alloc, classes.as_slice(), why)),
     }
 }
 
-/// A refusal of the first file or of its main.
+/// The image of a set of classes.
+fn infuse_classes(alloc: Global, classes: &[ClassFile]) -> Result<Image, Stop>
+    requires { AllByRecursion IsRecord classes.now }
+    ensures found { IfOk result (λ image. IsOneClass classes.now (λ class. IsClassImage class image)) }
+    ensures refused { IfErr result (SetStopsFor classes.now) }
+{
+    match classes {
+        [class] if is_one_main(class) => infuse_class(alloc, class),
+        _ => Err(Stop::Unbuilt),
+    }
+}
+
+/// A refusal of main.
 fn refusal(cause: Cause, value: u32) -> Refusal
     ensures { result ≡ refusal_of_main cause value }
 {
@@ -91,31 +110,15 @@ fn refusal(cause: Cause, value: u32) -> Refusal
     }
 }
 
-/// The refusal of a class file that was read.
-fn refusal_for(why: Stop) -> Refusal
-    ensures { result ≡ refusal_for_of why }
+/// The refusal of classes that have no image for this reason.
+fn refusal_for(alloc: Global, classes: &[ClassFile], why: Stop) -> Refusal
+    ensures { RefusesFor classes.now why result }
 {
     match why {
-        Stop::Unbuilt => refusal(Cause::Unbuilt, 0),
+        Stop::Unbuilt => unbuilt(alloc, classes),
         Stop::FrameTooLarge(cells) => refusal(Cause::FrameTooLarge, cells),
         Stop::CodeTooLong(bytes) => refusal(Cause::CodeTooLong, bytes),
         Stop::Memory => refusal(Cause::Memory, 0),
-    }
-}
-
-/// The image of a class file.
-fn infuse_file(alloc: Global, bytes: &[u8]) -> Result<Image, Refusal>
-    ensures found { IfOk result (IsInfused (bytes.now ∷ [])) }
-    ensures refused { IfErr result (RefusedOrMemory (bytes.now ∷ [])) }
-{
-    match read_class(alloc, bytes) {
-        Ok(file) => match infuse_class(alloc, &file) {
-            Ok(image) => Ok(image),
-            Err(why) => Err(refusal_for(why)),
-        },
-        Err(ReadRefusal::NotClass) => Err(refusal(Cause::NotClass, 0)),
-        Err(ReadRefusal::Unbuilt) => Err(refusal(Cause::Unbuilt, 0)),
-        Err(ReadRefusal::Memory) => Err(refusal(Cause::Memory, 0)),
     }
 }
 

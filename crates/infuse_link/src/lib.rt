@@ -11,7 +11,9 @@ mod locals;
 mod marks;
 mod number_insn;
 mod offsets;
+mod outside;
 mod reach;
+mod sets;
 mod stop;
 #[cfg(test)]
 mod tests;

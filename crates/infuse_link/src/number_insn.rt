@@ -1,14 +1,14 @@
 //! The instructions of the number form, with their members resolved.
 
 ghost use Rattle.std.specs.Prelude.{◌≡◌, ◌≤◌, Some, option_map};
-ghost use Rattle.class_file.specs.Members.{is_member, method_name_at};
+ghost use Rattle.class_pool.specs.Members.{is_member, method_name_at};
 ghost use Rattle.jvm_model.specs.Body.{console, native_of, family_of};
 ghost use Rattle.jvm_model.specs.NumberForm.{pops as pops_of, pushes as pushes_of, is_jump as is_jump_of, is_final as is_final_of, reads as reads_of, writes as writes_of};
 ghost use Rattle.infuse_link.specs.NumberInsns.{native_meant, meant, unless_other};
 
 use cell_num::{BinOp, Cond, Conv};
 use class_code::{Insn, StackForm, SwitchForm, SwitchRow, ValueKind};
-use class_file::{MemberName, Pool, method_name};
+use class_pool::{MemberName, Pool, method_name};
 
 /// A native of `mote/Console`: `write(I)V`, `print(I)V` or `read()I`.
 #[derive(Clone, Copy, Debug, PartialEq, Eq)]

@@ -175,12 +175,13 @@ fn infuses_mains(rt: HostRuntime) -> Result<(), Fail> {
     Ok(())
 }
 
-/// A main that has another form: max_stack, max_locals and code.
+/// A main that is refused: max_stack, max_locals and code, and the cause, pc and value.
 struct Other {
     shows: &'static str,
     max_stack: u16,
     max_locals: u16,
     code: &'static [u8],
+    why: (Cause, u32, u32),
 }
 
 const OTHERS: [Other; 17] = [
@@ -189,111 +190,140 @@ const OTHERS: [Other; 17] = [
         max_stack: 1,
         max_locals: 1,
         code: b"",
+        why: (Cause::BadShape, 0, 0),
     },
     Other {
         shows: "code past its end",
         max_stack: 1,
         max_locals: 1,
         code: b"\x00",
+        why: (Cause::Unbuilt, 0, 0),
     },
     Other {
         shows: "an instruction that is left out",
         max_stack: 2,
         max_locals: 1,
         code: b"\x09\x58\xb1",
+        why: (Cause::Unsupported, 0, 9),
     },
     Other {
         shows: "a jump to no instruction",
         max_stack: 1,
         max_locals: 1,
         code: b"\xa7\x00\x01\xb1",
+        why: (Cause::BadCode, 0, 0),
     },
     Other {
         shows: "an instruction on references",
         max_stack: 1,
         max_locals: 1,
         code: b"\x01\x57\xb1",
+        why: (Cause::Unbuilt, 0, 0),
     },
     Other {
         shows: "a copy of an operand",
         max_stack: 2,
         max_locals: 1,
         code: b"\x03\x59\x57\x57\xb1",
+        why: (Cause::Unbuilt, 1, 0),
     },
     Other {
         shows: "a call of another method",
         max_stack: 1,
         max_locals: 1,
         code: b"\x03\xb8\x00\x17\xb1",
+        why: (Cause::Unbuilt, 1, 0),
     },
     Other {
         shows: "an ldc of another entry",
         max_stack: 1,
         max_locals: 1,
         code: b"\x12\x02\x57\xb1",
+        why: (Cause::Unbuilt, 0, 0),
     },
     Other {
         shows: "no operand",
         max_stack: 1,
         max_locals: 1,
         code: b"\x57\xb1",
+        why: (Cause::Unbuilt, 0, 0),
     },
     Other {
         shows: "an operand past max_stack",
         max_stack: 1,
         max_locals: 1,
         code: b"\x03\x03\x57\x57\xb1",
+        why: (Cause::Unbuilt, 0, 0),
     },
     Other {
         shows: "an operand at a return",
         max_stack: 1,
         max_locals: 1,
         code: b"\x03\xb1",
+        why: (Cause::Unbuilt, 0, 0),
     },
     Other {
         shows: "an operand at a target",
         max_stack: 2,
         max_locals: 1,
         code: b"\x03\x03\x99\x00\x03\x57\xb1",
+        why: (Cause::Unbuilt, 0, 0),
     },
     Other {
         shows: "a local that is read and not written",
         max_stack: 1,
         max_locals: 1,
         code: b"\x1a\x57\xb1",
+        why: (Cause::Unbuilt, 0, 0),
     },
     Other {
         shows: "a local that is written behind a jump alone",
         max_stack: 1,
         max_locals: 1,
         code: b"\x03\x99\x00\x05\x03\x3b\x1a\x57\xb1",
+        why: (Cause::Unbuilt, 0, 0),
     },
     Other {
         shows: "a local past max_locals",
         max_stack: 1,
         max_locals: 1,
         code: b"\x03\x3c\xb1",
+        why: (Cause::Unbuilt, 0, 0),
     },
     Other {
         shows: "an instruction that is not reached",
         max_stack: 1,
         max_locals: 1,
         code: b"\xb1\xb1",
+        why: (Cause::Unbuilt, 0, 0),
     },
     Other {
         shows: "instructions that reach each other alone",
         max_stack: 1,
         max_locals: 1,
         code: b"\xb1\x00\xa7\xff\xff",
+        why: (Cause::Unbuilt, 0, 0),
     },
 ];
 
 #[test]
-fn refuses_other_forms(rt: HostRuntime) -> Result<(), Fail> {
+fn refuses_other_codes(rt: HostRuntime) -> Result<(), Fail> {
     for row in &OTHERS {
         let bytes = class_with(rt.alloc(), row.max_stack, row.max_locals, row.code)?;
         let why = answer(rt.alloc(), bytes)?.err();
-        assert_eq!(rt; why, Some(refused(Cause::Unbuilt, 0)), "{}", row.shows);
+        let (cause, pc, value) = row.why;
+        assert_eq!(rt;
+            why,
+            Some(Refusal {
+                cause,
+                file: 0,
+                member: 0,
+                pc,
+                value
+            }),
+            "{}",
+            row.shows
+        );
     }
     Ok(())
 }
@@ -303,12 +333,28 @@ fn refuses_sets_that_are_not_one_class(rt: HostRuntime) -> Result<(), Fail> {
     let mut files = Vec::new(rt.alloc());
     let none = infuse(rt.alloc(), &files).err();
     assert_eq!(rt; none, Some(refused(Cause::Unbuilt, 0)));
-    files.push(Vec::from_slice(rt.alloc(), b"\xca\xfe\xba")?)?;
-    let cut = infuse(rt.alloc(), &files).err();
-    assert_eq!(rt; cut, Some(refused(Cause::NotClass, 0)));
+    files.push(Vec::from_slice(rt.alloc(), HI)?)?;
     files.push(Vec::from_slice(rt.alloc(), HI)?)?;
     let two = infuse(rt.alloc(), &files).err();
     assert_eq!(rt; two, Some(refused(Cause::Unbuilt, 0)));
+    files.push(Vec::from_slice(rt.alloc(), b"\xca\xfe\xba")?)?;
+    let cut = infuse(rt.alloc(), &files).err();
+    let third = Refusal {
+        file: 2,
+        ..refused(Cause::NotClass, 0)
+    };
+    assert_eq!(rt; cut, Some(third));
+    Ok(())
+}
+
+#[test]
+fn refuses_more_than_512_files(rt: HostRuntime) -> Result<(), Fail> {
+    let mut files = Vec::new(rt.alloc());
+    for _ in 0..513 {
+        files.push(Vec::new(rt.alloc()))?;
+    }
+    let why = infuse(rt.alloc(), &files).err();
+    assert_eq!(rt; why, Some(refused(Cause::TooMany, 513)));
     Ok(())
 }
 

@@ -1,6 +1,6 @@
 use Rattle.std.proofs.Common.{Vec, Global, ◌≡◌, ℕ, List, map, sym, ◌∙◌, subst}
 use Rattle.image_form.specs.declared.record.Image.{Image}
-use Rattle.image_form.specs.SmallForm.{IsSmall}
+use Rattle.image_form.specs.Grammar.{IsImage}
 use Rattle.image_check.specs.Checked.{IsChecked, IsBuilt}
 use Rattle.class_file.specs.declared.record.ClassFile.{ClassFile}
 use Rattle.class_file.specs.declared.record.CodeAttr.{CodeAttr}
@@ -12,7 +12,7 @@ use Rattle.jvm_model.specs.Accepted.{IsAccepted}
 use Rattle.infuse_link.specs.Infused.{IsInfused}
 use Rattle.infuse_link.specs.RunsAlike.{RunsAlike}
 use Rattle.infuse_link.proofs.Images.{if_ok}
-use Rattle.infuse_link.proofs.ImageChecked.{image_small, image_checked, image_built}
+use Rattle.infuse_link.proofs.ImageChecked.{image_is_image, image_checked, image_built}
 use Rattle.infuse_link.proofs.RunsAlike.{runs_alike}
 use Rattle.infuse_link.proofs.Verdicts.{one_image, gives_image, gives_refusal}
 use Rattle.infuse_link.proofs.infusing.infuse.Goals as goal
@@ -26,10 +26,10 @@ returns-clause-only c = gives_image (bytes_of c.args.files.now) c.infuse_set.res
 pub returns-clause-refused_only : goal.returns-clause-refused_only
 returns-clause-refused_only c = gives_refusal (bytes_of c.args.files.now) c.infuse_set.result c.infuse_set.ensures.found c.infuse_set.ensures.refused
 
-pub returns-clause-small : goal.returns-clause-small
-returns-clause-small c =
+pub returns-clause-image : goal.returns-clause-image
+returns-clause-image c =
     let files = bytes_of c.args.files.now in
-    if_ok (IsInfused files) IsSmall c.infuse_set.result (λ image is. subst IsSmall (sym is.image_is) (image_small files is.file is.code is.body is.accepted)) c.infuse_set.ensures.found
+    if_ok (IsInfused files) IsImage c.infuse_set.result (λ image is. subst IsImage (sym is.image_is) (image_is_image files is.file is.code is.body is.accepted)) c.infuse_set.ensures.found
 
 pub returns-clause-checked : goal.returns-clause-checked
 returns-clause-checked c =
