@@ -1,6 +1,6 @@
 -- The clauses of a call, from its reply.
 use Rattle.std.proofs.Common.{◌≡◌, ℕ, ◌≤◌, List, [], ◌∷◌, ◌++◌, ◌⊎◌, ◌↔◌, Option, Some, None, inl, inr, refl, sym, ap, subst, ◌∙◌}
-use Rattle.std.specs.Prelude.{option_map}
+use Rattle.std.specs.Prelude.{option_map, Result, Ok, Err}
 use Rattle.std.specs.FinMap.{insert}
 use Rattle.dialogue.specs.Dialogue.{Item, Get, Put, Note, puts, notes, noting, puts-append, notes-append, puts-noting, notes-noting}
 use Rattle.std.proofs.lemmas.List.{append-nil}
@@ -8,9 +8,11 @@ use Rattle.class_file.specs.declared.record.ClassFile.{ClassFile}
 use Rattle.class_file.specs.declared.record.CodeAttr.{CodeAttr}
 use Rattle.image_form.specs.declared.record.Image.{Image}
 use Rattle.image_form.specs.Format.{spelling}
-use Rattle.image_form.specs.SmallForm.{IsSpelled}
-use Rattle.image_form.proofs.Whole.{one_image}
-use Rattle.image_form.proofs.Refusals.{spelled_or_refused}
+use Rattle.image_form.specs.Grammar.{IsSpelled}
+use Rattle.image_form.specs.declared.refusal.FormRefusal.{FormRefusal}
+use Rattle.image_form.specs.Refused as form
+use Rattle.image_form.specs.Reading.{image_of as read_of}
+use Rattle.image_form.proofs.Whole.{one_image, spelling_reads, refused_reads}
 use Rattle.image_form.specs.Refused as form
 use Rattle.image_check.specs.Checked.{IsChecked, IsBuilt}
 use Rattle.image_check.specs.Refused as checking
@@ -56,6 +58,13 @@ split_is_infusion image (split.HeapWanted need live) refusal e = cc
 split_is_infusion image (split.StackWanted need used) refusal e = cc
 split_is_infusion image split.ConsoleFault refusal e = cc
 split_is_infusion image (split.Misfit class place) refusal e = cc
+
+ok_or_err : (read : Result Image FormRefusal) (image : Image) (why : FormRefusal) → read ≡ Ok image → read ≡ Err why → ⊥
+ok_or_err read image why found refused = cc
+
+-- what is spelled is not refused
+spelled_or_refused : (bytes : List ℕ) (image : Image) (why : FormRefusal) → IsSpelled bytes image → form.IsRefused bytes why → ⊥
+spelled_or_refused bytes image why spelled refused = ok_or_err (read_of bytes) image why (spelling_reads bytes image spelled) (refused_reads bytes why refused)
 
 -- a checked infusion is one
 infusion_is_one : (bytes : List ℕ) (image : Image) → IsSpelled bytes image → IsChecked image → IsBuilt image → (refusal : ImageRefusal) → IsNoInfusion bytes refusal → ⊥

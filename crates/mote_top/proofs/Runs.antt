@@ -9,22 +9,23 @@ use Rattle.class_file.specs.declared.record.CodeAttr.{CodeAttr}
 use Rattle.image_form.specs.declared.record.Image.{Image}
 use Rattle.image_form.specs.declared.refusal.FormRefusal.{FormRefusal}
 use Rattle.image_form.specs.declared.refusal.FormRefusal.TheVariants.{Memory as NoFormMemory}
-use Rattle.image_form.specs.SmallForm.{IsSpelled}
+use Rattle.image_form.specs.Grammar.{IsSpelled}
 use Rattle.image_form.specs.Refused as form
 use Rattle.image_check.specs.declared.refusal.CheckCause.{CheckCause}
-use Rattle.image_check.specs.declared.refusal.CheckCause.TheVariants.{Memory as NoCheckMemory}
+use Rattle.image_check.specs.declared.refusal.CheckCause.TheVariants.{Memory as NoCheckMemory, Unbuilt as CheckUnbuilt}
 use Rattle.image_check.specs.declared.refusal.CheckRefusal.{CheckRefusal}
 use Rattle.image_check.specs.Checked.{IsChecked, IsBuilt}
 use Rattle.image_check.specs.Refused as check
 use Rattle.jvm_model.specs.declared.refusal.Cause.{Cause}
 use Rattle.jvm_model.specs.declared.refusal.Cause.TheVariants.{Memory as NoMemory}
+use Rattle.jvm_model.specs.declared.refusal.Cause.TheVariants as causes
 use Rattle.jvm_model.specs.declared.refusal.Refusal.{Refusal}
 use Rattle.jvm_model.specs.Machine as typed
 use Rattle.jvm_model.specs.Body.{Body}
 use Rattle.jvm_model.specs.ProgramOf.{program_of}
 use Rattle.jvm_model.specs.FrameCells.{frame_cells}
 use Rattle.jvm_model.specs.Accepted as verdict
-use Rattle.jvm_model.specs.Accepted.{IsAccepted, FailsFor}
+use Rattle.jvm_model.specs.Accepted.{IsAccepted}
 use Rattle.mote_model.specs.declared.ending.Ending.{Ending}
 use Rattle.mote_model.specs.declared.ending.Ending.TheVariants as split
 use Rattle.mote_model.specs.State.{State}
@@ -118,15 +119,33 @@ infusion_may bytes image spelled checked built limits left reply run =
 -- ---- refusals
 
 -- what refuses a set is no want of memory
-no_memory : (bytes : List ℕ) (cause : Cause) (value : ℕ) → FailsFor bytes cause value → cause ≡ NoMemory → ⊥
-no_memory bytes cause value fails is = let here : FailsFor bytes NoMemory value = subst (λ (c : Cause). FailsFor bytes c value) is fails in here
+-- a cause is want of memory, or is not
+memory_or_not : (cause : Cause) → (cause ≡ NoMemory) ⊎ (cause ≡ NoMemory → ⊥)
+memory_or_not NoMemory = inl refl
+memory_or_not causes.TooMany = inr (λ e. cc)
+memory_or_not causes.TooLarge = inr (λ e. cc)
+memory_or_not causes.NotClass = inr (λ e. cc)
+memory_or_not causes.Truncated = inr (λ e. cc)
+memory_or_not causes.Version = inr (λ e. cc)
+memory_or_not causes.BadPool = inr (λ e. cc)
+memory_or_not causes.BadDescriptor = inr (λ e. cc)
+memory_or_not causes.BadShape = inr (λ e. cc)
+memory_or_not causes.Trailing = inr (λ e. cc)
+memory_or_not causes.Unsupported = inr (λ e. cc)
+memory_or_not causes.BadCode = inr (λ e. cc)
+memory_or_not causes.Unbuilt = inr (λ e. cc)
+memory_or_not causes.FrameTooLarge = inr (λ e. cc)
+memory_or_not causes.CodeTooLong = inr (λ e. cc)
 
 -- the status of a refusal
 pub refused_status : (bytes : List ℕ) (why : Refusal) (status : Status) → (why.cause ≡ NoMemory → status ≡ Memory) → ((why.cause ≡ NoMemory → ⊥) → status ≡ Refused why)
     → (why.cause ≡ NoMemory) ⊎ verdict.IsRefused (bytes ∷ []) why → IsRefusedStatus (bytes ∷ []) status
 refused_status bytes why status memory other (inl is) = subst (IsRefusedStatus (bytes ∷ [])) (sym (memory is)) tt
 refused_status bytes why status memory other (inr refused) =
-    subst (IsRefusedStatus (bytes ∷ [])) (sym (other (no_memory bytes why.cause why.value refused.0))) refused
+    elim (memory_or_not why.cause) [
+      | inl is ↦ subst (IsRefusedStatus (bytes ∷ [])) (sym (memory is)) tt
+      | inr not ↦ subst (IsRefusedStatus (bytes ∷ [])) (sym (other not)) refused
+    ]
 
 -- a refused set answers quietly
 pub refused_may : (bytes : List ℕ) (limits : Limits) (status : Status) → IsRefusedStatus (bytes ∷ []) status → IsQuiet (λ left reply. OnInput left (RepliesOn (bytes ∷ []) limits) reply × IsVerdict reply.status) status
@@ -158,8 +177,12 @@ form_may bytes limits why status memory other (inl is) = subst (InfusionQuiet by
 form_may bytes limits why status memory other (inr refused) =
     subst (InfusionQuiet bytes limits) (sym (other (no_form_memory bytes why refused))) (no_infusion bytes limits (form_refusal why) (inl (record { why = why; refused = refused; is = refl })))
 
+unbuilt_is : CheckUnbuilt ≡ NoCheckMemory → ⊥
+unbuilt_is e = cc
+
 no_check_memory : (image : Image) (why : CheckRefusal) → check.IsRefused image why → why.cause ≡ NoCheckMemory → ⊥
-no_check_memory image why refused is = let here : check.FailsIn image refused.method NoCheckMemory why.pc = subst (λ (c : CheckCause). check.FailsIn image refused.method c why.pc) is refused.fails in here
+no_check_memory image why (inl none) is = unbuilt_is (sym (ap (λ (r : CheckRefusal). r.cause) none.is) ∙ is)
+no_check_memory image why (inr refused) is = let here : check.FailsIn image refused.method NoCheckMemory why.pc = subst (λ (c : CheckCause). check.FailsIn image refused.method c why.pc) is refused.fails in here
 
 -- an infusion whose check fails answers quietly
 pub check_may : (bytes : List ℕ) (limits : Limits) (image : Image) → IsSpelled bytes image → (why : CheckRefusal) (status : Status) → (why.cause ≡ NoCheckMemory → status ≡ Memory) → ((why.cause ≡ NoCheckMemory → ⊥) → status ≡ Infusion (check_refusal why))

@@ -47,7 +47,7 @@ form_refusal form.NotInfusion = refusal_by image.NotInfusion
 form_refusal (form.FormVersion version) = refusal_at image.FormVersion version 0
 form_refusal form.Truncated = refusal_by image.Truncated
 form_refusal form.TrailingBytes = refusal_by image.Trailing
-form_refusal form.Unbuilt = refusal_by image.Unbuilt
+form_refusal (form.BadTable table index) = refusal_at image.BadTable table index
 form_refusal form.Memory = refusal_by image.Unbuilt
 
 abbrev pub check_cause : CheckCause → ImageCause

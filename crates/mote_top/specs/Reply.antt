@@ -13,7 +13,7 @@ use Rattle.class_file.specs.declared.record.CodeAttr.{CodeAttr}
 use Rattle.image_form.specs.declared.record.Image.{Image}
 use Rattle.image_form.specs.declared.refusal.FormRefusal.{FormRefusal}
 use Rattle.image_form.specs.Format.{spelling}
-use Rattle.image_form.specs.SmallForm.{IsSpelled}
+use Rattle.image_form.specs.Grammar.{IsSpelled}
 use Rattle.image_form.specs.Refused as form
 use Rattle.image_check.specs.declared.refusal.CheckRefusal.{CheckRefusal}
 use Rattle.image_check.specs.Checked.{IsChecked, IsBuilt}

@@ -38,7 +38,17 @@ abbrev pub line : List ℕ → List ℕ → List ℕ
 line word numbers = word ++ (flat_map blank_number numbers ++ 10 ∷ [])
 
 abbrev pub cause_word : Cause → List ℕ
+cause_word causes.TooMany = codes "toomany"
+cause_word causes.TooLarge = codes "toolarge"
 cause_word causes.NotClass = codes "notclass"
+cause_word causes.Truncated = codes "truncated"
+cause_word causes.Version = codes "version"
+cause_word causes.BadPool = codes "badpool"
+cause_word causes.BadDescriptor = codes "baddescriptor"
+cause_word causes.BadShape = codes "badshape"
+cause_word causes.Trailing = codes "trailing"
+cause_word causes.Unsupported = codes "unsupported"
+cause_word causes.BadCode = codes "badcode"
 cause_word causes.Unbuilt = codes "unbuilt"
 cause_word causes.FrameTooLarge = codes "frametoolarge"
 cause_word causes.CodeTooLong = codes "codetoolong"

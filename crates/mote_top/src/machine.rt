@@ -151,14 +151,17 @@ fn kept(mut room: Vec<u8>, name: &[u8]) -> Items<u8>
 fn form_refusal(refusal: FormRefusal) -> ImageRefusal
     ensures { result ≡ form_refusal_of refusal }
 {
-    let (cause, a) = match refusal {
-        FormRefusal::NotInfusion => (ImageCause::NotInfusion, 0),
-        FormRefusal::FormVersion { version } => (ImageCause::FormVersion, u32::from(version)),
-        FormRefusal::Truncated => (ImageCause::Truncated, 0),
-        FormRefusal::TrailingBytes => (ImageCause::Trailing, 0),
-        FormRefusal::Unbuilt | FormRefusal::Memory => (ImageCause::Unbuilt, 0),
+    let (cause, a, b) = match refusal {
+        FormRefusal::NotInfusion => (ImageCause::NotInfusion, 0, 0),
+        FormRefusal::FormVersion { version } => (ImageCause::FormVersion, u32::from(version), 0),
+        FormRefusal::Truncated => (ImageCause::Truncated, 0, 0),
+        FormRefusal::TrailingBytes => (ImageCause::Trailing, 0, 0),
+        FormRefusal::BadTable { table, index } => {
+            (ImageCause::BadTable, u32::from(table), u32::from(index))
+        }
+        FormRefusal::Memory => (ImageCause::Unbuilt, 0, 0),
     };
-    ImageRefusal { cause, a, b: 0 }
+    ImageRefusal { cause, a, b }
 }
 
 /// The cause of a check, which is no want of memory.

@@ -45,7 +45,17 @@ fn word_of(cause: Cause) -> &'static [u8]
     ensures { result.now ≡ cause_word cause }
 {
     match cause {
+        Cause::TooMany => b"toomany",
+        Cause::TooLarge => b"toolarge",
         Cause::NotClass => b"notclass",
+        Cause::Truncated => b"truncated",
+        Cause::Version => b"version",
+        Cause::BadPool => b"badpool",
+        Cause::BadDescriptor => b"baddescriptor",
+        Cause::BadShape => b"badshape",
+        Cause::Trailing => b"trailing",
+        Cause::Unsupported => b"unsupported",
+        Cause::BadCode => b"badcode",
         Cause::Unbuilt => b"unbuilt",
         Cause::FrameTooLarge => b"frametoolarge",
         Cause::CodeTooLong => b"codetoolong",

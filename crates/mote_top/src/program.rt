@@ -6,7 +6,7 @@ ghost use Rattle.host_face.specs.Console.{FillsRoom};
 ghost use Rattle.host_face.specs.Faults.{Rose};
 ghost use Rattle.host_face.specs.Shelf.{Files};
 ghost use Rattle.image_form.specs.declared.record.Image.{Image};
-ghost use Rattle.image_form.specs.SmallForm.{IsSpelled};
+ghost use Rattle.image_form.specs.Grammar.{IsSpelled};
 ghost use Rattle.image_check.specs.Checked.{IsChecked, IsBuilt};
 ghost use Rattle.jvm_model.specs.declared.refusal.Refusal.{Refusal as Reason};
 ghost use Rattle.jvm_model.specs.Body.{Body};
