@@ -1,5 +1,6 @@
 pub mod Texts
 pub mod Steps
+pub mod Steady
 pub mod Loop
 pub mod Linked
 pub mod Parts
