@@ -11,6 +11,8 @@ pub mod Distinct
 pub mod Members
 pub mod ClassParts
 pub mod Body
+pub mod FrontsReaders
 pub mod Whole
+pub mod Fronts
 pub mod MainForm
 pub mod Answers

@@ -20,14 +20,14 @@ use Rattle.class_file.proofs.Body.{body_bytes, ended, body_again, body_taken, Is
 -- ---- the size and the magic
 
 -- the bytes are few enough, and begin as a class file does
-record IsBegun (bytes : List ℕ) : Type 0 where
-  size : length bytes ≤ largest
-  begins : take 4 bytes ≡ magic
+pub record IsBegun (bytes : List ℕ) : Type 0 where
+  pub size : length bytes ≤ largest
+  pub begins : take 4 bytes ≡ magic
 
 is_magic : (bytes : List ℕ) → bytes_eq (take 4 bytes) magic ≡ true → take 4 bytes ≡ magic
 is_magic bytes e = (bytes_eq-Decides (take 4 bytes) magic).0 e
 
-class_behind : (bytes : List ℕ) → IsBegun bytes → class_of bytes ≡ body_of (drop 4 bytes)
+pub class_behind : (bytes : List ℕ) → IsBegun bytes → class_of bytes ≡ body_of (drop 4 bytes)
 unfolding class_of
 class_behind bytes is =
     let few : ltb largest (length bytes) ≡ false = le-ltb _ _ is.size in
@@ -46,7 +46,7 @@ not_class bytes size other =
     rw (few, differs) refl
 
 -- the three ways of reading
-ways : (C : Type 0) (bytes : List ℕ) (r : Result ClassFile ReadRefusal) → class_of bytes ≡ r → (largest < length bytes → Err (TooLarge (capped (length bytes))) ≡ r → C) → (length bytes ≤ largest → take 4 bytes ≢ magic → Err NotClass ≡ r → C)
+pub ways : (C : Type 0) (bytes : List ℕ) (r : Result ClassFile ReadRefusal) → class_of bytes ≡ r → (largest < length bytes → Err (TooLarge (capped (length bytes))) ≡ r → C) → (length bytes ≤ largest → take 4 bytes ≢ magic → Err NotClass ≡ r → C)
     → (IsBegun bytes → body_of (drop 4 bytes) ≡ r → C) → C
 unfolding class_of
 ways C bytes r e large other begun =

@@ -6,3 +6,4 @@ pub mod Reading
 pub mod ReadingMembers
 pub mod ReadingClass
 pub mod Refused
+pub mod Fronts

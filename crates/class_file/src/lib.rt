@@ -12,6 +12,7 @@ mod code;
 mod field;
 mod flags;
 mod head;
+mod laws;
 mod member;
 mod names;
 mod one_main;
@@ -26,6 +27,7 @@ mod samples;
 #[cfg(test)]
 mod tests;
 
+pub use laws::fronts_decide;
 pub use one_main::is_one_main;
 pub use read::read_class;
 pub use record::{ClassFile, CodeAttr, HandlerRow, Member};
