@@ -17,7 +17,7 @@ use Rattle.image_form.proofs.ImageParts.{part_bytes, match_rows, image_reads}
 
 -- ---- the end of the bytes
 
-abbrev ends : Image × List ℕ → Result Image FormRefusal
+abbrev pub ends : Image × List ℕ → Result Image FormRefusal
 ends x = cond (eqb (length x.1) 0) (Ok x.0) (Err TrailingBytes)
 
 some_left : (rest : List ℕ) → rest ≢ [] → eqb (length rest) 0 ≡ false
@@ -40,7 +40,7 @@ in_turn : {A B C : Type 0} (r : Result A FormRefusal) (f : A → Result B FormRe
 in_turn (Ok x) f g = refl
 in_turn (Err why) f g = refl
 
-whole_is : (bytes : List ℕ) → whole_of bytes ≡ ((parts_at bytes >>= match_rows) >>= ends)
+pub whole_is : (bytes : List ℕ) → whole_of bytes ≡ ((parts_at bytes >>= match_rows) >>= ends)
 unfolding whole_of
 whole_is bytes = in_turn (parts_at bytes) match_rows ends
 
@@ -181,10 +181,10 @@ refused_reads bytes TrailingBytes h = followed_reads bytes h
 refused_reads bytes (BadTable table index) h = h
 refused_reads bytes Memory h = absurd h
 
-abbrev refusal : FormRefusal → Result Image FormRefusal
+abbrev pub refusal : FormRefusal → Result Image FormRefusal
 refusal why = Err why
 
-same_refusal : (first second : FormRefusal) → refusal first ≡ refusal second → first ≡ second
+pub same_refusal : (first second : FormRefusal) → refusal first ≡ refusal second → first ≡ second
 same_refusal first second e = cc
 
 refused_as : (bytes : List ℕ) (first second : FormRefusal) → image_of bytes ≡ Err first → image_of bytes ≡ Err second → IsRefused bytes first → IsRefused bytes second

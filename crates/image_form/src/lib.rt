@@ -19,7 +19,7 @@ mod tests;
 mod types;
 mod write;
 
-pub use laws::{one_spelling, small_is_image};
+pub use laws::{fronts_decide, one_spelling, small_is_image};
 pub use read::read_image;
 pub use record::{ClassEntry, DispatchRow, HandlerEntry, Image, Method, TypeEntry};
 pub use refusal::FormRefusal;
