@@ -1,5 +1,5 @@
 -- A rule that fails is one that an image does not keep.
-use Rattle.std.proofs.Common.{◌≡◌, ℕ, ◌+◌, ◌-◌, ◌<◌, List, drop, length, Some, IsTrue, sym, subst, ◌∙◌, arith, true, inl, inr}
+use Rattle.std.proofs.Common.{◌≡◌, ℕ, ◌+◌, ◌-◌, ◌<◌, List, drop, length, slice_get, Some, IsTrue, sym, subst, ◌∙◌, arith, true, inl, inr}
 use Rattle.std.specs.List.{AllByRecursion, Contains}
 use Rattle.std.proofs.lemmas.Bool.{false≢true}
 use Rattle.std.proofs.lemmas.Option.{some_pair_parts, slice_get_within, get_or_from_slice_get}
@@ -61,21 +61,28 @@ module _ (image : Image) (method : Method) (checked : IsCheckedMethod image meth
       let inside = keeps image method pc at.d at.insn at.size (λ i n. IsTrue (goes_on i) → pc + n < length method.code) right at.found right.inside in
       omega (arith, inside at.fails.0, at.fails.1)
 
-pub nothing_fails : (image : Image) (method : Method) → IsCheckedMethod image method → IsBuiltMethod method → (cause : CheckCause) (pc : ℕ) → FailsIn image method cause pc → ⊥
-nothing_fails image method checked built BadCode pc h = none_stops 0 method.code checked.insns h.insns checked.code.0 pc h.left checked.code.1 h.stand h.there h.none
-nothing_fails image method checked built BadTarget pc h = no_other method.code pc (λ insns x. JumpsToStarts method.code insns x) checked.insns checked.code checked.targets h
-nothing_fails image method checked built BadId pc h = no_other method.code pc (λ insns x. HasIds image method x.1) checked.insns checked.code checked.ids h
-nothing_fails image method checked built BadDepth pc h = no_bad_depth image method checked pc h
-nothing_fails image method checked built Crosses pc h = no_cross image method checked pc h
-nothing_fails image method checked built Falls pc h = no_fall image method checked pc h
-nothing_fails image method checked built Unbuilt pc h = no_other method.code pc (λ insns x. is_built x.1 ≡ true) built.0 built.1 built.2 h
-nothing_fails image method checked built Memory pc h = h
+pub nothing_fails : (image : Image) (method : Method) → IsCheckedMethod image method → (cause : CheckCause) (pc : ℕ) → FailsIn image method cause pc → ⊥
+nothing_fails image method checked BadCode pc h = none_stops 0 method.code checked.insns h.insns checked.code.0 pc h.left checked.code.1 h.stand h.there h.none
+nothing_fails image method checked BadTarget pc h = no_other method.code pc (λ insns x. JumpsToStarts method.code insns x) checked.insns checked.code checked.targets h
+nothing_fails image method checked BadId pc h = no_other method.code pc (λ insns x. HasIds image method x.1) checked.insns checked.code checked.ids h
+nothing_fails image method checked BadDepth pc h = no_bad_depth image method checked pc h
+nothing_fails image method checked Crosses pc h = no_cross image method checked pc h
+nothing_fails image method checked Falls pc h = no_fall image method checked pc h
+nothing_fails image method checked Unbuilt pc h = h
+nothing_fails image method checked Memory pc h = h
+
+-- the method of an id is among those of the image
+among : (image : Image) (method : Method) (id : ℕ) → slice_get image.methods (id - 32) ≡ Some method → Contains image.methods method
+among image method id is =
+    let k = id - 32 in
+    (k, slice_get_within image.methods k method is, get_or_from_slice_get image.methods k method method is)
 
 -- an image that is refused is not both checked and built
 pub refused_not_checked : (image : Image) (refusal : CheckRefusal) → IsRefused image refusal → IsChecked image → IsBuilt image → ⊥
 refused_not_checked image refusal (inl none) checked built = false≢true (sym none.no_form ∙ built.form)
-refused_not_checked image refusal (inr refused) checked built =
-    let k = refusal.method - 32 in
-    let lt = slice_get_within image.methods k refused.method refused.is_method in
-    let among : Contains image.methods refused.method = (k, lt, get_or_from_slice_get image.methods k refused.method refused.method refused.is_method) in
-    nothing_fails image refused.method (each-of (IsCheckedMethod image) image.methods refused.method checked among) (each-of IsBuiltMethod image.methods refused.method built.methods among) refusal.cause refusal.pc refused.fails
+refused_not_checked image refusal (inr (inl refused)) checked built =
+    let there = among image refused.method refusal.method refused.is_method in
+    nothing_fails image refused.method (each-of (IsCheckedMethod image) image.methods refused.method checked there) refusal.cause refusal.pc refused.fails
+refused_not_checked image refusal (inr (inr unbuilt)) checked built =
+    let is = each-of IsBuiltMethod image.methods unbuilt.method built.methods (among image unbuilt.method refusal.method unbuilt.is_method) in
+    no_other unbuilt.method.code refusal.pc (λ insns x. is_built x.1 ≡ true) is.0 is.1 is.2 unbuilt.unbuilt

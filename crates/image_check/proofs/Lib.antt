@@ -8,3 +8,4 @@ pub mod Spreading
 pub mod Flowing
 pub mod Ending
 pub mod Apart
+pub mod Dimensions

@@ -1,6 +1,6 @@
 -- The form of the images that the machine runs so far: classes without fields and dispatch rows, no
 -- interface, array type, selector or static, and one method without arguments, result and handlers.
-use Rattle.std.specs.Prelude.{ℕ, Bool, false, ◌&&◌, ◌||◌, ◌==◌, List, [], ◌∷◌, length}
+use Rattle.std.specs.Prelude.{Bool, false, ◌&&◌, ◌||◌, ◌==◌, List, [], ◌∷◌, length}
 use Rattle.std.specs.List.{list_all}
 use Rattle.image_instr.specs.declared.signature.Sig.{Sig}
 use Rattle.image_form.specs.declared.record.Image.{Image}

@@ -1,4 +1,5 @@
--- Why an image is not checked: its form, or a rule, and an offset of a method at which it fails.
+-- Why an image is not checked: its form, or a rule, and an offset of a method at which it fails, or, where
+-- all rules hold, an instruction that the machine does not run.
 use Rattle.std.specs.Prelude.{◌≡◌, ◌≢◌, ℕ, ◌+◌, ◌-◌, ◌<◌, ◌≤◌, true, false, IsTrue, List, length, drop, Some, None, ◌⊎◌, slice_get}
 use Rattle.std.specs.List.{Contains}
 use Rattle.image_instr.specs.declared.insn.MInsn.{MInsn}
@@ -11,6 +12,7 @@ use Rattle.image_check.specs.declared.refusal.CheckRefusal.{CheckRefusal}
 use Rattle.image_check.specs.Code.{Insns, StandIn, CodeIs, JumpsToStarts}
 use Rattle.image_check.specs.Ids.{HasIds}
 use Rattle.image_check.specs.Built.{is_built}
+use Rattle.image_check.specs.Checked.{IsChecked}
 use Rattle.image_check.specs.BuiltForm.{has_built_form}
 use Rattle.image_check.specs.Visits.{Depth, IsSent, HasOperands, ReturnsResult, FitsBody, moved_by, behind, goes_on, successors}
 
@@ -69,7 +71,7 @@ FailsIn image method BadId pc = HasOther method.code pc (λ insns x. HasIds imag
 FailsIn image method BadDepth pc = IsReachedWith image method pc (FailsDepth image method pc)
 FailsIn image method Crosses pc = IsReachedWith image method pc (FailsBody image method)
 FailsIn image method Falls pc = IsReachedWith image method pc (λ d insn size. FailsEnd method pc insn size)
-FailsIn image method Unbuilt pc = HasOther method.code pc (λ insns x. is_built x.1 ≡ true)
+FailsIn image method Unbuilt pc = ⊥
 FailsIn image method Memory pc = ⊥
 
 -- the image is not of the form that the machine runs, which has no place
@@ -85,9 +87,23 @@ pub record FailsThere (image : Image) (refusal : CheckRefusal) : Type 0 where
   pub own : 32 ≤ refusal.method
   pub fails : FailsIn image method refusal.cause refusal.pc
 
--- the image is refused so: for its form, or else for a rule
+-- the machine does not run the instruction that stands at the offset
+abbrev pub IsUnbuiltAt : Method → ℕ → Type 0
+IsUnbuiltAt method pc = HasOther method.code pc (λ insns x. is_built x.1 ≡ true)
+
+-- all rules hold, and the machine does not run the instruction at the offset of the method of the id
+pub record IsUnbuiltThere (image : Image) (refusal : CheckRefusal) : Type 0 where
+  pub form : has_built_form image ≡ true
+  pub checked : IsChecked image
+  pub method : Method
+  pub is_method : slice_get image.methods (refusal.method - 32) ≡ Some method
+  pub own : 32 ≤ refusal.method
+  pub cause : refusal.cause ≡ Unbuilt
+  pub unbuilt : IsUnbuiltAt method refusal.pc
+
+-- the image is refused so: for its form, or else for a rule, or else for an instruction
 abbrev pub IsRefused : Image → CheckRefusal → Type 0
-IsRefused image refusal = IsNoForm image refusal ⊎ FailsThere image refusal
+IsRefused image refusal = IsNoForm image refusal ⊎ (FailsThere image refusal ⊎ IsUnbuiltThere image refusal)
 
 -- for want of memory, or the rule that the cause names fails in the method at the offset
 abbrev pub IsFault : Image → Method → CheckCause → ℕ → Type 0

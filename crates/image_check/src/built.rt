@@ -1,13 +1,11 @@
 //! The instructions that the machine runs so far.
 
-ghost use Rattle.std.specs.Prelude.{◌≡◌, true, IfErr, OnOk};
+ghost use Rattle.std.specs.Prelude.{◌≡◌, true, IfNone, IfSome};
 ghost use Rattle.std.specs.List.{AllByRecursion};
-ghost use Rattle.image_form.specs.declared.record.Image.{Image};
 ghost use Rattle.image_check.specs.Code.{CodeIs};
 ghost use Rattle.image_check.specs.Built.{is_built as is_built_of};
-ghost use Rattle.image_check.specs.Refused.{IsFault};
+ghost use Rattle.image_check.specs.Refused.{IsUnbuiltAt};
 
-use crate::refusal::{CheckCause, Fault};
 use image_form::Method;
 use image_instr::{Kind, MInsn, Width};
 
@@ -32,19 +30,16 @@ fn is_built(insn: MInsn) -> bool
     }
 }
 
-/// Tests that the machine runs each instruction.
-pub(crate) fn test_built(method: &Method, insns: &[(u16, MInsn)]) -> Result<(), Fault>
+/// The offset of the first instruction that the machine does not run.
+pub(crate) fn first_unbuilt(method: &Method, insns: &[(u16, MInsn)]) -> Option<u16>
     requires { CodeIs method.now.code insns.now }
-    ensures kept { OnOk result (AllByRecursion (λ x. is_built_of x.1 ≡ true) insns.now) }
-    ensures refused { (image : Image) → IfErr result (λ fault. IsFault image method.now fault.cause fault.pc) }
+    ensures none { IfNone result (AllByRecursion (λ x. is_built_of x.1 ≡ true) insns.now) }
+    ensures some { IfSome result (IsUnbuiltAt method.now) }
 {
     for x in insns {
         if !is_built(x.1) {
-            return Err(Fault {
-                cause: CheckCause::Unbuilt,
-                pc: x.0,
-            });
+            return Some(x.0);
         }
     }
-    Ok(())
+    None
 }

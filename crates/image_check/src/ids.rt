@@ -1,66 +1,53 @@
-//! The locals and the methods that instructions name.
+//! What instructions name: locals, statics, methods, selectors and types.
 
-ghost use Rattle.std.specs.Prelude.{◌≡◌, IfErr, OnOk, MatchBool};
+ghost use Rattle.std.specs.Prelude.{◌≡◌, ◌-◌, ◌<◌, ◌≤◌, length, slice_get, option_copied, IfErr, OnOk, MatchBool};
 ghost use Rattle.std.specs.List.{AllByRecursion};
 ghost use Rattle.image_form.specs.declared.record.Image.{Image};
+ghost use Rattle.image_form.specs.Library.{signature as signature_is};
 ghost use Rattle.image_check.specs.Code.{CodeIs};
-ghost use Rattle.image_check.specs.Ids.{signature as signature_is, library_signature as library_signature_of, signature_of as image_signature, called_by as called_sig, HasLocal, HasIds, kind_of as kind_for};
+ghost use Rattle.image_check.specs.Ids.{called_by as called_sig, kind_of as kind_for, names_concrete as names_concrete_of, names_array as names_array_of, element_of as element_in, has_dimensions as has_dimensions_of, HasLocal, HasStatic, TakesReceiver, HasIds};
 ghost use Rattle.image_check.specs.Refused.{IsFault};
 
 use crate::refusal::{CheckCause, Fault};
-use image_form::{Image, Method};
+use image_form::{Image, Method, TypeEntry, names_interface, names_type, signature_in};
 use image_instr::{Kind, MInsn, Sig, Width};
 
 /// The first id of the types and of the methods of an image; those below are the library's.
 pub(crate) const FIRST_OWN: u16 = 32;
 
-/// A signature; the result is 0 for none, 1 for a reference, 2 for one cell, 3 for two.
-fn signature(refs: u8, cells: u16, code: u8) -> Sig
-    ensures { result ≡ signature_is refs cells code }
-{
-    Sig {
-        refs,
-        cells,
-        result: code,
-    }
-}
+/// How many of the library's ids name a type.
+const LIBRARY_TYPES: u16 = 15;
 
-/// The signature of a method of the library: the constructor, write, read and print.
-fn library_signature(id: u16) -> Option<Sig>
-    ensures { result ≡ library_signature_of id }
-{
-    match id {
-        0 => Some(signature(1, 0, 0)),
-        1 => Some(signature(0, 2, 0)),
-        2 => Some(signature(0, 0, 3)),
-        3 => Some(signature(0, 2, 0)),
-        _ => None,
-    }
-}
+/// The signature of what is not called.
+const NO_SIGNATURE: Sig = Sig {
+    refs: 0,
+    cells: 0,
+    result: 0,
+};
 
-/// The signature of a method, where it is there. The image's own methods count from 32.
-fn signature_of(image: &Image, id: u16) -> Option<Sig>
-    ensures { result ≡ image_signature image.now id }
+/// The signature of a selector, where it is there.
+fn selector_in(image: &Image, selector: u16) -> Option<Sig>
+    ensures { result ≡ slice_get image.now.selectors selector }
 {
-    if id < FIRST_OWN {
-        return library_signature(id);
-    }
-    match image.methods.as_slice().get(usize::from(id - FIRST_OWN)) {
-        Some(method) => Some(method.sig),
-        None => None,
-    }
+    image
+        .selectors
+        .as_slice()
+        .get(usize::from(selector))
+        .copied()
 }
 
 /// The signature of what an instruction calls, which counts for calls alone.
 pub(crate) fn called_by(image: &Image, insn: MInsn) -> Sig
     ensures { result ≡ called_sig image.now insn }
 {
-    match insn {
+    let called = match insn {
         MInsn::CallS { method } | MInsn::CallX { method } => {
-            signature_of(image, method).unwrap_or(signature(0, 0, 0))
+            signature_in(image.methods.as_slice(), method)
         }
-        _ => signature(0, 0, 0),
-    }
+        MInsn::CallV { selector } | MInsn::CallI { selector, .. } => selector_in(image, selector),
+        _ => None,
+    };
+    called.unwrap_or(NO_SIGNATURE)
 }
 
 /// Whether the local is there; one of two cells has its second cell too.
@@ -84,17 +71,120 @@ fn kind_of(width: Width) -> Kind
     }
 }
 
+/// Whether the static is there; one of two cells has its second cell too.
+fn has_static(image: &Image, kind: Kind, place: u16) -> bool
+    ensures { MatchBool result (HasStatic image.now kind place) (¬ HasStatic image.now kind place) }
+{
+    let cells = image.static_cells.len();
+    match kind {
+        Kind::Ref => place < image.static_refs,
+        Kind::One => usize::from(place) < cells,
+        Kind::Two => usize::from(place) + 1 < cells,
+    }
+}
+
+/// The entry of a type that is not the library's, where it is there.
+fn entry_of(types: &[TypeEntry], id: u16) -> Option<&TypeEntry>
+    requires { 32 ≤ id }
+    ensures { option_copied result ≡ slice_get types.now (id - 32) }
+{
+    types.get(usize::from(id - FIRST_OWN))
+}
+
+/// Whether the id names a class of which there may be objects: neither an interface nor abstract.
+fn names_concrete(types: &[TypeEntry], id: u16) -> bool
+    ensures { result ≡ names_concrete_of types.now id }
+{
+    if id < FIRST_OWN {
+        return id < LIBRARY_TYPES;
+    }
+    match entry_of(types, id) {
+        Some(TypeEntry::Class(class)) => class.flags == 0,
+        _ => false,
+    }
+}
+
+/// Whether the id names an array type.
+fn names_array(types: &[TypeEntry], id: u16) -> bool
+    ensures { result ≡ names_array_of types.now id }
+{
+    if id < FIRST_OWN {
+        return false;
+    }
+    matches!(
+        entry_of(types, id),
+        Some(TypeEntry::RefArray { .. } | TypeEntry::NumArray { .. })
+    )
+}
+
+/// The type of the elements of an array type, where they are references; else that of Object.
+fn element_of(types: &[TypeEntry], id: u16) -> u16
+    ensures { result ≡ element_in types.now id }
+{
+    if id < FIRST_OWN {
+        return 0;
+    }
+    match entry_of(types, id) {
+        Some(TypeEntry::RefArray { of }) => *of,
+        _ => 0,
+    }
+}
+
+/// Whether the id names an array type of at least so many dimensions.
+fn has_dimensions(types: &[TypeEntry], dimensions: u8, id: u16) -> bool
+    ensures { result ≡ has_dimensions_of types.now dimensions id }
+{
+    let mut element = id;
+    for _ in 0..dimensions {
+        if !names_array(types, element) {
+            return false;
+        }
+        element = element_of(types, element);
+    }
+    true
+}
+
+/// Whether the selector is there.
+fn has_selector(image: &Image, selector: u16) -> bool
+    ensures { MatchBool result (selector < length image.now.selectors) (¬ (selector < length image.now.selectors)) }
+{
+    usize::from(selector) < image.selectors.len()
+}
+
+/// Whether a method is there that takes a reference, its receiver.
+fn takes_receiver(called: Option<Sig>) -> bool
+    ensures { MatchBool result (TakesReceiver called) (¬ TakesReceiver called) }
+{
+    match called {
+        Some(sig) => 1 <= sig.refs,
+        None => false,
+    }
+}
+
 /// Whether what the instruction names is there.
 fn has_ids(image: &Image, method: &Method, insn: MInsn) -> bool
     ensures { MatchBool result (HasIds image.now method.now insn) (¬ HasIds image.now method.now insn) }
 {
+    let types = image.types.as_slice();
+    let methods = image.methods.as_slice();
     match insn {
         MInsn::Load { kind, local } | MInsn::Store { kind, local } => {
             has_local(method, kind, local)
         }
         MInsn::RClear { local } => has_local(method, Kind::Ref, local),
         MInsn::Inc { width, local, .. } => has_local(method, kind_of(width), local),
-        MInsn::CallS { method } | MInsn::CallX { method } => signature_of(image, method).is_some(),
+        MInsn::GetS { kind, place } | MInsn::PutS { kind, place } => {
+            has_static(image, kind, place)
+        }
+        MInsn::NewArr { id, .. } => names_array(types, id),
+        MInsn::Multi { id, dims } => 1 <= dims && has_dimensions(types, dims, id),
+        MInsn::New { id } => names_concrete(types, id),
+        MInsn::Cast { id } | MInsn::Inst { id } => names_type(types, id),
+        MInsn::CallS { method } => signature_in(methods, method).is_some(),
+        MInsn::CallX { method } => takes_receiver(signature_in(methods, method)),
+        MInsn::CallV { selector } => has_selector(image, selector),
+        MInsn::CallI { selector, id } => has_selector(image, selector)
+            && names_interface(types, id),
         _ => true,
     }
 }

@@ -12,7 +12,7 @@ pub enum CheckCause {
     BadCode,
     /// The instruction jumps to a place that is no start of an instruction.
     BadTarget,
-    /// The instruction names a local or a method that is not there.
+    /// The instruction names what is not there, or not of the kind that it needs.
     BadId,
     /// Operands are missing, a return is not the method's result, or two depths reach one place.
     BadDepth,

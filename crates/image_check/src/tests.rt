@@ -6,6 +6,7 @@ ghost use Rattle.image_form.specs.Grammar.{IsImage};
 use super::*;
 use image_form::{Image, read_image};
 use std::alloc::Global;
+use std::process::Abort;
 use std::test::*;
 
 /// An infusion up to the cells of main's locals: a class Hi, and one method.
@@ -126,12 +127,78 @@ fn tests_code_by_the_rules(rt: HostRuntime) -> Result<(), Fail> {
         (0, 0, &[0x79, 0x13, 1, 0x79], "Ok"),
         (0, 2, &[0x79, 0x0b, 0], "BadId 32 1"),
     ];
-    let alloc = rt.alloc();
-    for (cell_locals, body, code, wanted) in &rows {
+    each_is_answered(&rt, rt.alloc(), &rows)
+}
+
+/// The rows of some code: the cells of its locals, those of its body, its bytes, and what is answered.
+type Row<'a> = (u16, u16, &'a [u8], &'a str);
+
+/// Each code is answered so.
+fn each_is_answered(rt: &impl Abort, alloc: Global, rows: &[Row<'_>]) -> Result<(), Fail> {
+    for (cell_locals, body, code, wanted) in rows {
         let found = answer(alloc, *cell_locals, *body, code)?;
         assert_eq!(rt; found.as_str(), *wanted, "{code:?}");
     }
     Ok(())
+}
+
+#[test]
+fn tests_what_is_named(rt: HostRuntime) -> Result<(), Fail> {
+    each_is_answered(
+        &rt,
+        rt.alloc(),
+        &[
+            // RGETS, GETS1, GETS2 and PUTS1 where there is no static
+            (0, 2, &[0x80, 0, 0x79], "BadId 32 0"),
+            (0, 2, &[0x82, 0, 0x79], "BadId 32 0"),
+            (0, 2, &[0x83, 0, 0x79], "BadId 32 0"),
+            (0, 2, &[0x03, 1, 0x84, 0, 0x79], "BadId 32 2"),
+            // NEW of no type, of a kept id, and of the class
+            (0, 1, &[0xb0, 0, 33, 0x12, 1, 0x79], "BadId 32 0"),
+            (0, 1, &[0xb0, 0, 15, 0x12, 1, 0x79], "BadId 32 0"),
+            (0, 1, &[0xb0, 0, 32, 0x12, 1, 0x79], "Unbuilt 32 0"),
+            // CAST and INST of no type
+            (0, 1, &[0x06, 0xb1, 0, 33, 0x12, 1, 0x79], "BadId 32 1"),
+            (0, 1, &[0x06, 0xb2, 0, 31, 0x13, 1, 0x79], "BadId 32 1"),
+            // NEWARR1 of a class, and MULTI of a class and of no count
+            (0, 1, &[0x03, 1, 0x90, 0, 32, 0x12, 1, 0x79], "BadId 32 2"),
+            (
+                0,
+                2,
+                &[0x04, 1, 0x92, 0, 32, 1, 0x12, 1, 0x79],
+                "BadId 32 2",
+            ),
+            (0, 2, &[0x92, 0, 32, 0, 0x12, 1, 0x79], "BadId 32 0"),
+            // CALLX of write and of main, which take no receiver, and of the constructor
+            (0, 2, &[0x04, 1, 0xb5, 0, 1, 0x79], "BadId 32 2"),
+            (0, 1, &[0x06, 0xb5, 0, 32, 0x79], "BadId 32 1"),
+            (0, 1, &[0x06, 0xb5, 0, 0, 0x79], "Unbuilt 32 0"),
+            // CALLV and CALLI of no selector
+            (0, 1, &[0x06, 0xb6, 0, 0, 0x79], "BadId 32 1"),
+            (0, 1, &[0x06, 0xb7, 0, 0, 0, 32, 0x79], "BadId 32 1"),
+        ],
+    )
+}
+
+#[test]
+fn tests_all_rules_before_what_is_built(rt: HostRuntime) -> Result<(), Fail> {
+    each_is_answered(
+        &rt,
+        rt.alloc(),
+        &[
+            // NULL without room, and a POP of no cell behind it
+            (0, 0, &[0x06, 0x79], "Crosses 32 0"),
+            (0, 1, &[0x06, 0x13, 1, 0x79], "BadDepth 32 1"),
+            // NULL, and then the end of the code
+            (0, 1, &[0x06], "Falls 32 0"),
+            // NULL, and a local, a target and an instruction that are not there
+            (0, 3, &[0x06, 0x0b, 0, 0x79], "BadId 32 1"),
+            (0, 1, &[0x06, 0x74, 0, 2], "BadTarget 32 1"),
+            (0, 1, &[0x06, 0xff], "BadCode 32 1"),
+            // The machine does not run two instructions: the first is named.
+            (0, 1, &[0x06, 0x12, 1, 0x79], "Unbuilt 32 0"),
+        ],
+    )
 }
 
 /// What the check of this infusion answers, as text.
@@ -145,7 +212,7 @@ fn answer_to(alloc: Global, bytes: &[u8]) -> Result<String, Fail> {
 #[test]
 fn tests_the_form_first(rt: HostRuntime) -> Result<(), Fail> {
     // Each has a class Hi and a main, whose code is RET, and one thing more.
-    let rows: [(&[u8], &str); 11] = [
+    let rows: [(&[u8], &str); 12] = [
         // nothing more
         (
             b"DJIN\0\x01\0\x01\0\0\0\0\0\0\0\0\0\0\0\0\0\x02Hi\0\0\0\x01\0\0\0\0\0\0\0\0\0\0\0\x01\x79\0\0\0\0\0\0\0\x20",
@@ -155,6 +222,11 @@ fn tests_the_form_first(rt: HostRuntime) -> Result<(), Fail> {
         (
             b"DJIN\0\x01\0\x02\0\0\0\0\0\0\0\0\0\0\0\0\0\x02Hi\0\0\x20\x02\0\0\0\0\0\0\0\0\0\0\0\0\0\x01\0\0\0\0\0\0\0\0\0\0\0\x01\x79\0\0\0\0\0\0\0\x20",
             "Ok",
+        ),
+        // and of which main makes an object: NEW 33, RPOP 1, RET
+        (
+            b"DJIN\0\x01\0\x02\0\0\0\0\0\0\0\0\0\0\0\0\0\x02Hi\0\0\x20\x02\0\0\0\0\0\0\0\0\0\0\0\0\0\x01\0\0\0\0\0\0\0\0\0\x01\0\x06\xb0\0\x21\x12\x01\x79\0\0\0\0\0\0\0\x20",
+            "BadId 32 0",
         ),
         // a second type: an interface, an array of Hi, an array of ints
         (

@@ -2,14 +2,15 @@
 
 ghost use Rattle.std.specs.Prelude.{◌≡◌, ◌≢◌, ◌≤◌, ◌⊎◌, true, IfOk, IfErr, OnOk, IsSome, Some, length, slice_get, ◌-◌};
 ghost use Rattle.std.specs.List.{AllByRecursion};
+ghost use Rattle.image_form.specs.declared.record.Image.{Image as Record};
 ghost use Rattle.image_form.specs.declared.record.Method.{Method};
 ghost use Rattle.image_form.specs.Grammar.{IsImage};
 ghost use Rattle.image_check.specs.BuiltForm.{has_built_form};
-ghost use Rattle.image_check.specs.declared.refusal.CheckCause.TheVariants.{Memory};
+ghost use Rattle.image_check.specs.declared.refusal.CheckCause.TheVariants.{Memory, Unbuilt};
 ghost use Rattle.image_check.specs.Checked.{IsCheckedMethod, IsChecked, IsBuiltMethod, IsBuilt};
-ghost use Rattle.image_check.specs.Refused.{IsFault, FailsThere, IsRefused};
+ghost use Rattle.image_check.specs.Refused.{IsFault, IsUnbuiltAt, FailsThere, IsUnbuiltThere, IsRefused};
 
-use crate::built::test_built;
+use crate::built::first_unbuilt;
 use crate::built_form::has_built_form;
 use crate::flow::follow_depths;
 use crate::ids::{FIRST_OWN, test_ids};
@@ -39,19 +40,33 @@ impl Model for Checked {
     ghost invariant = { λ checked. IsImage checked.image × IsChecked checked.image × IsBuilt checked.image };
 }
 
-/// Tests a method: its code, its targets, its ids, that the machine runs it, and its depths.
+/// Tests a method: its code, its targets, its ids and its depths.
 fn check_method(alloc: Global, image: &Image, method: &Method) -> Result<(), Fault>
     requires some { 1 ≤ length method.now.code }
     requires small { length method.now.code ≤ 65535 }
     ensures checked { OnOk result (IsCheckedMethod image.now method.now) }
-    ensures built { OnOk result (IsBuiltMethod method.now) }
     ensures refused { IfErr result (λ fault. IsFault image.now method.now fault.cause fault.pc) }
 {
     let insns = list_insns(alloc, method)?;
     test_targets(method, &insns)?;
     test_ids(image, method, &insns)?;
-    test_built(method, &insns)?;
     follow_depths(alloc, image, method)
+}
+
+/// Tests that the machine runs each instruction of a method.
+fn test_built(alloc: Global, method: &Method) -> Result<(), Fault>
+    requires { length method.now.code ≤ 65535 }
+    ensures built { OnOk result (IsBuiltMethod method.now) }
+    ensures refused { (image : Record) → IfErr result (λ fault. IsFault image method.now fault.cause fault.pc ⊎ ((fault.cause ≡ Unbuilt) × IsUnbuiltAt method.now fault.pc)) }
+{
+    let insns = list_insns(alloc, method)?;
+    match first_unbuilt(method, &insns) {
+        Some(pc) => Err(Fault {
+            cause: CheckCause::Unbuilt,
+            pc,
+        }),
+        None => Ok(()),
+    }
 }
 
 /// The refusal of an image for the fault of a method; want of memory has no place.
@@ -86,7 +101,6 @@ fn check_methods(alloc: Global, image: &Image) -> Result<(), CheckRefusal>
     requires image { IsImage image.now }
     requires form { has_built_form image.now ≡ true }
     ensures checked { OnOk result (IsChecked image.now) }
-    ensures built { OnOk result (AllByRecursion IsBuiltMethod image.now.methods) }
     ensures refused { IfErr result (λ refusal. (refusal.cause ≡ Memory) ⊎ FailsThere image.now refusal) }
     ensures memory { IfErr result (λ refusal. refusal.cause ≡ Memory → (refusal.method ≡ 0) × (refusal.pc ≡ 0)) }
 {
@@ -98,9 +112,41 @@ fn check_methods(alloc: Global, image: &Image) -> Result<(), CheckRefusal>
     Ok(())
 }
 
+/// Tests that the machine runs each method of an image that keeps the rules.
+fn test_methods(alloc: Global, image: &Image) -> Result<(), CheckRefusal>
+    requires image { IsImage image.now }
+    requires form { has_built_form image.now ≡ true }
+    requires checked { IsChecked image.now }
+    ensures built { OnOk result (AllByRecursion IsBuiltMethod image.now.methods) }
+    ensures refused { IfErr result (λ refusal. (refusal.cause ≡ Memory) ⊎ (FailsThere image.now refusal ⊎ IsUnbuiltThere image.now refusal)) }
+    ensures memory { IfErr result (λ refusal. refusal.cause ≡ Memory → (refusal.method ≡ 0) × (refusal.pc ≡ 0)) }
+{
+    for (index, method) in image.methods.as_slice().iter().enumerate() {
+        if let Err(fault) = test_built(alloc, method) {
+            return Err(refusal_of(fault, FIRST_OWN + index as u16));
+        }
+    }
+    Ok(())
+}
+
+/// Tests an image of the form that the machine runs: first the rules of each method, and then that the
+/// machine runs each instruction.
+fn test_image(alloc: Global, image: &Image) -> Result<(), CheckRefusal>
+    requires image { IsImage image.now }
+    requires form { has_built_form image.now ≡ true }
+    ensures checked { OnOk result (IsChecked image.now) }
+    ensures built { OnOk result (IsBuilt image.now) }
+    ensures refused { IfErr result (λ refusal. (refusal.cause ≡ Memory) ⊎ IsRefused image.now refusal) }
+    ensures memory { IfErr result (λ refusal. refusal.cause ≡ Memory → (refusal.method ≡ 0) × (refusal.pc ≡ 0)) }
+{
+    check_methods(alloc, image)?;
+    test_methods(alloc, image)
+}
+
 /// Checks an image. It is answered where it has the form that the machine runs, each method keeps the
 /// rules and the machine runs each of its instructions; else it is given back, with its form as the
-/// cause and no place, or with a rule that fails and where.
+/// cause and no place, or with a rule that fails and where, or, where all rules hold, with the place of
+/// an instruction that the machine does not run.
 pub fn check(alloc: Global, image: Image) -> Result<Checked, (Image, CheckRefusal)>
     requires { IsImage image }
     ensures found { IfOk result (λ checked. (checked ≡ image) × IsChecked image × IsBuilt image) }
@@ -111,7 +157,7 @@ pub fn check(alloc: Global, image: Image) -> Result<Checked, (Image, CheckRefusa
     if !has_built_form(&image) {
         return Err((image, NO_FORM));
     }
-    match check_methods(alloc, &image) {
+    match test_image(alloc, &image) {
         Ok(()) => Ok(Checked { image }),
         Err(refusal) => Err((image, refusal)),
     }

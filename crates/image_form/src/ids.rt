@@ -33,7 +33,7 @@ fn is_interface(class: &ClassEntry) -> bool
 }
 
 /// The id names a type.
-pub(crate) fn names_type(types: &[TypeEntry], id: u16) -> bool
+pub fn names_type(types: &[TypeEntry], id: u16) -> bool
     ensures { result ≡ names_type types.now id }
 {
     if id < FIRST {
@@ -66,7 +66,7 @@ pub(crate) fn names_parent(types: &[TypeEntry], id: u16) -> bool
 }
 
 /// The id names an interface.
-pub(crate) fn names_interface(types: &[TypeEntry], id: u16) -> bool
+pub fn names_interface(types: &[TypeEntry], id: u16) -> bool
     ensures { result ≡ names_interface types.now id }
 {
     if id < FIRST {
@@ -123,7 +123,7 @@ fn library_signature(id: u16) -> Option<Sig>
 }
 
 /// The signature of a method.
-pub(crate) fn signature_in(methods: &[Method], id: u16) -> Option<Sig>
+pub fn signature_in(methods: &[Method], id: u16) -> Option<Sig>
     ensures { result ≡ signature_in methods.now id }
 {
     if id < FIRST {

@@ -19,6 +19,7 @@ mod tests;
 mod types;
 mod write;
 
+pub use ids::{names_interface, names_type, signature_in};
 pub use laws::{fronts_decide, one_spelling, small_is_image};
 pub use read::read_image;
 pub use record::{ClassEntry, DispatchRow, HandlerEntry, Image, Method, TypeEntry};

@@ -6,5 +6,5 @@ pub returns-in-Err-clause-only : goal.returns-in-Err-clause-only
 returns-in-Err-clause-only c = λ checked built.
     elim c.in-Err.ensures.refused [
       | inl memory ↦ memory
-      | inr refused ↦ absurd (refused_not_checked c.args.image c.in-Err.refusal (inr refused) checked built)
+      | inr refused ↦ absurd (refused_not_checked c.args.image c.in-Err.refusal refused checked built)
     ]

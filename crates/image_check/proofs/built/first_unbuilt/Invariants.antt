@@ -1,6 +1,6 @@
 use Rattle.std.proofs.Common.{◌≡◌, true, take, All}
 use Rattle.image_check.specs.Built.{is_built}
-use Rattle.image_check.proofs.built.test_built.Given as goal
+use Rattle.image_check.proofs.built.first_unbuilt.Given as goal
 
 -- the instructions so far pass
 abbrev pub invariant-loop-x : goal.invariant-loop-x
