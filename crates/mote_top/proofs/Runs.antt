@@ -182,7 +182,8 @@ unbuilt_is e = cc
 
 no_check_memory : (image : Image) (why : CheckRefusal) → check.IsRefused image why → why.cause ≡ NoCheckMemory → ⊥
 no_check_memory image why (inl none) is = unbuilt_is (sym (ap (λ (r : CheckRefusal). r.cause) none.is) ∙ is)
-no_check_memory image why (inr refused) is = let here : check.FailsIn image refused.method NoCheckMemory why.pc = subst (λ (c : CheckCause). check.FailsIn image refused.method c why.pc) is refused.fails in here
+no_check_memory image why (inr (inl refused)) is = let here : check.FailsIn image refused.method NoCheckMemory why.pc = subst (λ (c : CheckCause). check.FailsIn image refused.method c why.pc) is refused.fails in here
+no_check_memory image why (inr (inr unbuilt)) is = unbuilt_is (sym unbuilt.cause ∙ is)
 
 -- an infusion whose check fails answers quietly
 pub check_may : (bytes : List ℕ) (limits : Limits) (image : Image) → IsSpelled bytes image → (why : CheckRefusal) (status : Status) → (why.cause ≡ NoCheckMemory → status ≡ Memory) → ((why.cause ≡ NoCheckMemory → ⊥) → status ≡ Infusion (check_refusal why))
