@@ -2,6 +2,8 @@
 //! data and may be compared with what a definition gives. This crate stands on `std` alone.
 #![tactic(auto)]
 
+mod compared;
+
 ghost use Rattle.std.specs.Prelude.{◌≡◌, ◌↔◌, [], IsTrue, length};
 
 use std::alloc::Global;
