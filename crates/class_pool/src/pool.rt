@@ -8,7 +8,7 @@ use std::marker::Model;
 pub type Text = Items<u8>;
 
 /// An entry of the constant pool (JVMS 4.4). An index of another entry is a `u16`.
-#[derive(Debug, Drop)]
+#[derive(Debug, Drop, PartialEq, Eq, Hash)]
 pub enum Const {
     Utf8(Text),
     Integer(i32),
