@@ -1,4 +1,6 @@
+pub mod Equality
 pub mod Places
+pub mod Numbered
 pub mod Drafts
 pub mod Appended
 pub mod Names

@@ -1,10 +1,10 @@
 -- Where an entry stands in a pool.
-use Rattle.std.proofs.Common.{◌≡◌, ℕ, suc, ◌+◌, ◌<◌, ◌≤◌, Bool, true, false, cond, eqb, eq-eqb, ◌&&◌, List, [], ◌∷◌, ◌++◌, length, get_or, take, drop, drop-cons, add-one, Option, Some, None, refl, sym, ap, ◌∙◌, arith, inl, inr, length-append}
+use Rattle.std.proofs.Common.{◌≡◌, ℕ, suc, ◌+◌, ◌<◌, ◌≤◌, Bool, true, false, cond, eqb, eq-eqb, ◌&&◌, List, [], ◌∷◌, ◌++◌, length, get_or, drop, drop-cons, add-one, Option, Some, None, refl, sym, ap, ◌∙◌, arith, inl, inr}
 use Rattle.std.specs.Prelude.{is_some, IsSome, Result, Ok, Err, OnOk, IfOk}
 use Rattle.std.proofs.lemmas.Bool.{cases_Bool, eqb-true, false≢true}
 use Rattle.std.proofs.lemmas.Bool.Decides.{Decides-int_eq}
 use Rattle.std.proofs.lemmas.Slice.Eq.{bytes_eq-Decides}
-use Rattle.std.proofs.lemmas.List.{drop_all, take_all, take-append-le}
+use Rattle.std.proofs.lemmas.List.{drop_all}
 use Rattle.class_pool.specs.declared.pool.Const.{Const}
 use Rattle.class_pool.specs.declared.pool.Const.TheVariants.{Utf8, Integer, Float, Long, Double, Class, String, Field, Method, InterfaceMethod, NameAndType, MethodHandle, MethodType, InvokeDynamic}
 use Rattle.class_pool.specs.Pool.{Places}
@@ -119,24 +119,6 @@ found_behind first (place ∷ pool) more entry e =
 
 -- ---- a pool with an entry more
 
-take_whole : (pool : Places) → take (length pool) pool ≡ pool
-take_whole pool = take_all (length pool) pool (omega arith)
-
--- the pool as it was is in front
-pub begins_with : (pool : Places) (entry : Const) → take (length pool) (with_entry pool entry) ≡ pool
-begins_with pool entry =
-    elim (cases_Bool (is_some (index_of pool entry))) [
-      | inl t ↦ rw t (take_whole pool)
-      | inr f ↦ rw f (take-append-le (length pool) pool (places_of entry) (omega arith) ∙ take_whole pool)
-    ]
-
-pub no_shorter : (pool : Places) (entry : Const) → length pool ≤ length (with_entry pool entry)
-no_shorter pool entry =
-    elim (cases_Bool (is_some (index_of pool entry))) [
-      | inl t ↦ rw t (omega arith)
-      | inr f ↦ rw f (omega (arith, length-append pool (places_of entry)))
-    ]
-
 pub index_stays : (pool : Places) (entry other : Const) (index : ℕ) → index_of pool other ≡ Some index → index_of (with_entry pool entry) other ≡ Some index
 index_stays pool entry other index e =
     elim (cases_Bool (is_some (index_of pool entry))) [
@@ -151,11 +133,10 @@ index_behind pool entry e = found_behind 1 pool _ entry e
 pub index_is : (pool : Places) (entry : Const) (index : ℕ) → index_of pool entry ≡ Some index → index_in pool entry ≡ index
 index_is pool entry index e = rw e refl
 
-pub index_pushed : (pool seen new : Places) (entry : Const) (found : Option ℕ) (size : ℕ) → seen ≡ pool → found ≡ index_of seen entry → found ≡ None → size ≡ length seen → new ≡ pool ++ places_of entry
-    → index_of new entry ≡ Some (size + 1)
-index_pushed pool seen new entry found size same looked none size_is placed =
-    let behind : index_of (seen ++ places_of entry) entry ≡ Some (length seen + 1) = index_behind seen entry (sym looked ∙ none) in
-    rw (placed, ← same, size_is) behind
+pub index_pushed : (pool new : Places) (entry : Const) (result : Result ℕ DraftRefusal) → index_of pool entry ≡ None → OnOk result (new ≡ pool ++ places_of entry)
+    → IfOk result (λ i. i ≡ length pool + 1) → IfOk result (λ i. index_of new entry ≡ Some i)
+index_pushed pool new entry (Ok i) none placed is = rw (placed, is) (index_behind pool entry none)
+index_pushed pool new entry (Err why) none placed is = tt
 
 pub class_placed : (named new : Places) (name : List ℕ) (i : ℕ) (result : Result ℕ DraftRefusal) → index_of named (Utf8 name) ≡ Some i → OnOk result (new ≡ with_entry named (Class i))
     → IfOk result (λ k. index_of new (Class i) ≡ Some k) → IfOk result (λ k. index_of new (Class (text_index new name)) ≡ Some k)

@@ -2,3 +2,4 @@ pub mod Record
 pub mod Written
 pub mod Entries
 pub mod Draft
+pub mod Numbered

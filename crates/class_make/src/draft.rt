@@ -8,20 +8,20 @@ ghost use Rattle.class_make.specs.Record.{IsRecord};
 ghost use Rattle.class_make.specs.Entries.{index_of, with_entry, text_index};
 ghost use Rattle.class_make.specs.Draft.{new_class, member_in, with_field, with_method, with_constant, with_field_texts, with_method_texts, IsOver, IsUnplaced, IsInvalid};
 
-use crate::entries::{place_class, place_entry, place_text};
+use crate::constants::Constants;
 use crate::refusal::DraftRefusal;
 use crate::valid::test_record;
 use class_file::{ClassFile, CodeAttr, Member};
 use class_pool::{Const, Pool};
 use item_list::Items;
-use std::alloc::Global;
+use std::alloc::{AllocError, Global};
 use std::marker::Model;
 
 /// A class in the making: version 52.0, public, without interfaces. Contracts see the record that was
 /// drafted so far. Its constants stand in the order in which they were first seen, each once.
 #[derive(Debug, Drop)]
 pub struct ClassDraft {
-    places: Vec<Option<Const>>,
+    places: Constants,
     this_class: u16,
     super_class: u16,
     fields: Vec<Member>,
@@ -37,7 +37,7 @@ impl Model for ClassDraft {
     ghost view = { λ draft. record {
       minor = 0;
       major = 52;
-      pool = draft.places.items;
+      pool = draft.places;
       flags = 33;
       this_class = draft.this_class;
       super_class = draft.super_class;
@@ -46,54 +46,26 @@ impl Model for ClassDraft {
       methods = draft.methods.items;
     } };
 
-    ghost invariant = { λ draft. length draft.places.items ≤ 65534 };
-}
-
-/// The indexes of the name and the descriptor of a member.
-#[derive(Clone, Copy)]
-struct MemberTexts {
-    name: u16,
-    descriptor: u16,
-}
-
-/// The indexes of a name and a descriptor, which are added where they are not there.
-fn place_member_texts(
-    alloc: Global,
-    places: &mut Vec<Option<Const>>,
-    name: &[u8],
-    descriptor: &[u8],
-) -> Result<MemberTexts, DraftRefusal>
-    requires { length places.old.items ≤ 65534 }
-    ensures placed { OnOk result (places.new.items ≡ with_field_texts places.old.items name.now descriptor.now) }
-    ensures name_index { IfOk result (λ texts. index_of places.new.items (Utf8 name.now) ≡ Some texts.name) }
-    ensures descriptor_index { IfOk result (λ texts. index_of places.new.items (Utf8 descriptor.now) ≡ Some texts.descriptor) }
-    ensures begins { take (length places.old.items) places.new.items ≡ places.old.items }
-    ensures stays_within { length places.new.items ≤ 65534 }
-    ensures refused { IfErr result (IsUnplaced (with_field_texts places.old.items name.now descriptor.now)) }
-{
-    let name = place_text(alloc, places, name)?;
-    let descriptor = place_text(alloc, places, descriptor)?;
-    Ok(MemberTexts { name, descriptor })
+    ghost invariant = { λ draft. length draft.places ≤ 65534 };
 }
 
 /// Adds a field to the fields, and its texts to the places.
 fn push_field(
     alloc: Global,
-    places: &mut Vec<Option<Const>>,
+    places: &mut Constants,
     fields: &mut Vec<Member>,
     flags: u16,
     name: &[u8],
     descriptor: &[u8],
 ) -> Result<(), DraftRefusal>
-    requires { length places.old.items ≤ 65534 }
-    ensures placed { OnOk result (places.new.items ≡ with_field_texts places.old.items name.now descriptor.now) }
-    ensures added { OnOk result (fields.new.items ≡ fields.old.items ++ member_in places.new.items flags name.now descriptor.now None ∷ []) }
+    ensures placed { OnOk result (places.new ≡ with_field_texts places.old name.now descriptor.now) }
+    ensures added { OnOk result (fields.new.items ≡ fields.old.items ++ member_in places.new flags name.now descriptor.now None ∷ []) }
     ensures unchanged { OnErr result (fields.new.items ≡ fields.old.items) }
-    ensures begins { take (length places.old.items) places.new.items ≡ places.old.items }
-    ensures stays_within { length places.new.items ≤ 65534 }
-    ensures refused { IfErr result (IsUnplaced (with_field_texts places.old.items name.now descriptor.now)) }
+    ensures begins { take (length places.old) places.new ≡ places.old }
+    ensures stays_within { OnOk result (length places.new ≤ 65534) }
+    ensures refused { IfErr result (IsUnplaced (with_field_texts places.old name.now descriptor.now)) }
 {
-    let texts = place_member_texts(alloc, places, name, descriptor)?;
+    let texts = places.place_member_texts(alloc, name, descriptor)?;
     fields.push(Member {
         flags,
         name: texts.name,
@@ -107,23 +79,22 @@ fn push_field(
 /// Adds a method with code to the methods, and its texts to the places.
 fn push_method(
     alloc: Global,
-    places: &mut Vec<Option<Const>>,
+    places: &mut Constants,
     methods: &mut Vec<Member>,
     flags: u16,
     name: &[u8],
     descriptor: &[u8],
     code: CodeAttr,
 ) -> Result<(), DraftRefusal>
-    requires { length places.old.items ≤ 65534 }
-    ensures placed { OnOk result (places.new.items ≡ with_method_texts places.old.items name.now descriptor.now) }
-    ensures added { OnOk result (methods.new.items ≡ methods.old.items ++ member_in places.new.items flags name.now descriptor.now (Some code) ∷ []) }
+    ensures placed { OnOk result (places.new ≡ with_method_texts places.old name.now descriptor.now) }
+    ensures added { OnOk result (methods.new.items ≡ methods.old.items ++ member_in places.new flags name.now descriptor.now (Some code) ∷ []) }
     ensures unchanged { OnErr result (methods.new.items ≡ methods.old.items) }
-    ensures begins { take (length places.old.items) places.new.items ≡ places.old.items }
-    ensures stays_within { length places.new.items ≤ 65534 }
-    ensures refused { IfErr result (IsUnplaced (with_method_texts places.old.items name.now descriptor.now)) }
+    ensures begins { take (length places.old) places.new ≡ places.old }
+    ensures stays_within { OnOk result (length places.new ≤ 65534) }
+    ensures refused { IfErr result (IsUnplaced (with_method_texts places.old name.now descriptor.now)) }
 {
-    let texts = place_member_texts(alloc, places, name, descriptor)?;
-    place_text(alloc, places, b"Code")?;
+    let texts = places.place_member_texts(alloc, name, descriptor)?;
+    places.place_text(alloc, b"Code")?;
     methods.push(Member {
         flags,
         name: texts.name,
@@ -142,9 +113,9 @@ impl ClassDraft {
         ensures drafted { IfOk result (λ draft. draft ≡ new_class name.now parent.now) }
         ensures refused { IfErr result (λ why. why ≡ Memory) }
     {
-        let mut places = Vec::new(alloc);
-        let this_class = place_class(alloc, &mut places, name)?;
-        let super_class = place_class(alloc, &mut places, parent)?;
+        let mut places = Constants::new(alloc);
+        let this_class = places.place_class(alloc, name)?;
+        let super_class = places.place_class(alloc, parent)?;
         Ok(ClassDraft {
             places,
             this_class,
@@ -170,7 +141,7 @@ impl ClassDraft {
         ensures refused { IfErr result (IsUnplaced (with_field_texts self.old.pool name.now descriptor.now)) }
         ensures full { IsOver (with_field_texts self.old.pool name.now descriptor.now) → IsErr result }
     {
-        let size = self.places.len();
+        let count = self.places.count();
         let added = push_field(
             alloc,
             &mut self.places,
@@ -180,7 +151,7 @@ impl ClassDraft {
             descriptor,
         );
         if added.is_err() {
-            self.places.truncate(size);
+            self.places.keep(count);
         }
         added
     }
@@ -202,7 +173,7 @@ impl ClassDraft {
         ensures refused { IfErr result (IsUnplaced (with_method_texts self.old.pool name.now descriptor.now)) }
         ensures full { IsOver (with_method_texts self.old.pool name.now descriptor.now) → IsErr result }
     {
-        let size = self.places.len();
+        let count = self.places.count();
         let added = push_method(
             alloc,
             &mut self.places,
@@ -213,7 +184,7 @@ impl ClassDraft {
             code,
         );
         if added.is_err() {
-            self.places.truncate(size);
+            self.places.keep(count);
         }
         added
     }
@@ -231,7 +202,7 @@ impl ClassDraft {
         ensures refused { IfErr result (IsUnplaced (with_entry self.old.pool c)) }
         ensures full { IsOver (with_entry self.old.pool c) → IsErr result }
     {
-        place_entry(&mut self.places, c)
+        self.places.place(c)
     }
 
     /// The drafted record. It is refused where no bytes are a class file with this record.
@@ -243,14 +214,14 @@ impl ClassDraft {
         // BadShape exactly where it is that of none, unless memory runs out.
         ensures refused { IfErr result (IsInvalid self) }
     {
-        let file = self.into_file(alloc);
+        let file = self.into_file(alloc)?;
         test_record(alloc, &file)?;
         Ok(file)
     }
 
     /// The record that was drafted.
-    fn into_file(self, alloc: Global) -> ClassFile
-        ensures { result ≡ self }
+    fn into_file(self, alloc: Global) -> Result<ClassFile, AllocError>
+        ensures { IfOk result (λ file. file ≡ self) }
     {
         let ClassDraft {
             places,
@@ -259,7 +230,8 @@ impl ClassDraft {
             fields,
             methods,
         } = self;
-        ClassFile {
+        let places = places.into_places(alloc)?;
+        Ok(ClassFile {
             minor: 0,
             major: 52,
             pool: Pool::from_places(places),
@@ -269,6 +241,6 @@ impl ClassDraft {
             interfaces: Items::empty(alloc),
             fields: Items::from_vec(fields),
             methods: Items::from_vec(methods),
-        }
+        })
     }
 }

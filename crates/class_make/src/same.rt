@@ -2,7 +2,6 @@
 
 ghost use Rattle.std.specs.Prelude.{◌≡◌, ◌↔◌, IsTrue};
 
-use crate::entries::is_same;
 use class_file::{ClassFile, CodeAttr, HandlerRow, Member};
 use class_pool::Const;
 
@@ -11,7 +10,7 @@ fn is_same_place(a: &Option<Const>, b: &Option<Const>) -> bool
 {
     match a {
         Some(x) => match b {
-            Some(y) => is_same(x, y),
+            Some(y) => x == y,
             None => false,
         },
         None => b.is_none(),

@@ -4,7 +4,6 @@ ghost use Rattle.std.specs.Prelude.{IfOk};
 ghost use Rattle.class_make.specs.Record.{IsRecord};
 
 use super::*;
-use crate::entries::place_entry;
 use crate::same::is_same_class;
 use class_file::{ClassFile, CodeAttr, HandlerRow, read_class};
 use class_pool::Const;
@@ -157,25 +156,48 @@ fn shares_constants(rt: HostRuntime) -> Result<(), Fail> {
     Ok(())
 }
 
+/// Adds a new constant for each index from this one to 65,533, and answers whether each call answered
+/// its index.
+fn fills_but_one(alloc: Global, draft: &mut ClassDraft, first: u16) -> Result<bool, DraftRefusal> {
+    for index in first..65_534 {
+        if draft.constant(alloc, Const::Integer(i32::from(index)))? != index {
+            return Ok(false);
+        }
+    }
+    Ok(true)
+}
+
 #[test]
 fn refuses_a_constant_too_many(rt: HostRuntime) -> Result<(), Fail> {
-    let mut places = Vec::new(rt.alloc());
-    for number in 0..65_533 {
-        places.push(Some(Const::Integer(number)))?;
-    }
-    assert_eq!(rt; places.len(), 65_533);
+    let alloc = rt.alloc();
+    let mut draft = ClassDraft::new(alloc, b"Full", b"Full")?;
+    assert!(rt; fills_but_one(alloc, &mut draft, 3)?);
     // One place is left: for a constant of one place, and for none of two.
     assert_eq!(rt;
-        place_entry(&mut places, Const::Long(1)),
+        draft.constant(alloc, Const::Long(1)),
         Err(DraftRefusal::Full)
     );
-    assert_eq!(rt; places.len(), 65_533);
-    assert_eq!(rt; place_entry(&mut places, Const::Float(1)), Ok(65_534));
+    assert_eq!(rt; draft.constant(alloc, Const::Float(1)), Ok(65_534));
     assert_eq!(rt;
-        place_entry(&mut places, Const::Float(2)),
+        draft.constant(alloc, Const::Float(2)),
         Err(DraftRefusal::Full)
     );
-    assert_eq!(rt; place_entry(&mut places, Const::Integer(0)), Ok(1));
+    assert_eq!(rt; draft.constant(alloc, Const::Integer(3)), Ok(3));
+    Ok(())
+}
+
+#[test]
+fn takes_back_what_a_refused_member_added(rt: HostRuntime) -> Result<(), Fail> {
+    let alloc = rt.alloc();
+    let mut draft = ClassDraft::new(alloc, b"Full", b"Full")?;
+    assert!(rt; fills_but_one(alloc, &mut draft, 3)?);
+    // The name would fit, and the descriptor does not.
+    assert_eq!(rt;
+        draft.add_field(alloc, PUBLIC, b"count", b"I"),
+        Err(DraftRefusal::Full)
+    );
+    assert_eq!(rt; draft.constant(alloc, text(alloc, b"other")?)?, 65_534);
+    assert_eq!(rt; draft.constant(alloc, text(alloc, b"Full")?)?, 1);
     Ok(())
 }
 
