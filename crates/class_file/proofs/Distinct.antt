@@ -24,7 +24,7 @@ combined P Q R [] says q r = tt
 combined P Q R (x ∷ xs) says q r = (says x q.0 r.0, combined P Q R xs says q.1 r.1)
 
 module _ (pool : Places) where
-  one_behind : (earlier : List Member) (m : Member) (head : Head) → is_declared pool (earlier ++ m ∷ []) head ≡ (is_declared pool earlier head || (is_same_member pool (head_in m) head || false))
+  pub one_behind : (earlier : List Member) (m : Member) (head : Head) → is_declared pool (earlier ++ m ∷ []) head ≡ (is_declared pool earlier head || (is_same_member pool (head_in m) head || false))
   unfolding is_declared
   one_behind earlier m head = list_any-append (λ other. is_same_member pool (head_in other) head) earlier (m ∷ [])
 

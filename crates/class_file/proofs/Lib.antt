@@ -8,6 +8,8 @@ pub mod Attributes
 pub mod Codes
 pub mod MemberAttributes
 pub mod Distinct
+pub mod SameTexts
+pub mod Heads
 pub mod Members
 pub mod ClassParts
 pub mod Body

@@ -7,3 +7,4 @@ pub mod ReadingMembers
 pub mod ReadingClass
 pub mod Refused
 pub mod Fronts
+pub mod Texts

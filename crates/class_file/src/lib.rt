@@ -2,7 +2,8 @@
 //! `read_class`. What stands between the bytes and the record is the class file relation, in
 //! specs/Relation.antt: the bytes are the spelling of a layout, the layout keeps the rules, and the
 //! record is that of the layout. Why other bytes are refused is in specs/Refused.antt, and the order in
-//! which faults are found in specs/ReadingClass.antt. `is_one_main` tells the class files of one main,
+//! which faults are found in specs/ReadingClass.antt. A table of the pool's texts, in specs/Texts.antt,
+//! keeps the cost in proportion to the bytes. `is_one_main` tells the class files of one main,
 //! in specs/OneMain.antt. This crate stands on `class_pool`, `item_list` and the kit's `byteorder`.
 #![tactic(auto)]
 
@@ -24,8 +25,10 @@ mod rule_tests;
 mod rules;
 #[cfg(test)]
 mod samples;
+mod seen;
 #[cfg(test)]
 mod tests;
+mod texts;
 
 pub use laws::fronts_decide;
 pub use one_main::is_one_main;

@@ -2,7 +2,8 @@
 
 ghost use Rattle.std.specs.Prelude.{◌≡◌, [], None};
 ghost use Rattle.class_file.specs.Reading.{Gives, steps_at, one_more};
-ghost use Rattle.class_file.specs.ReadingMembers.{value_at, field_attribute_at, method_attribute_at, field_attributes_at, method_attributes_at, head_at, field_type, method_type, field_head_at, method_head_at, field_at, method_at, fields_at, methods_at};
+ghost use Rattle.class_file.specs.Texts.{AreTexts, AreSeen};
+ghost use Rattle.class_file.specs.ReadingMembers.{value_at, field_attribute_at, method_attribute_at, field_attributes_at, method_attributes_at, head_at, field_head_at, method_head_at, field_at, method_at, fields_at, methods_at};
 
 use crate::attribute::{info_at, text_at};
 use crate::code::code_at;
@@ -12,13 +13,14 @@ use crate::head::Head;
 use crate::names::is_text;
 use crate::record::{CodeAttr, Member};
 use crate::refusal::ReadRefusal;
-use crate::rules::{is_declared, is_field_head, is_method_head};
+use crate::rules::{is_field_head, is_method_head};
+use crate::seen::{Seen, is_declared, note};
+use crate::texts::{Texts, is_field_at, shape_at};
 use byteorder::{BigEndian, ByteOrder};
-use class_pool::{
-    Descriptor, DescriptorRefusal, Kind, Pool, read_descriptor, read_field_descriptor,
-};
+use class_pool::Pool;
 use item_list::Items;
 use std::alloc::Global;
+use std::collections::BTreeSet;
 
 /// What stands behind the name `ConstantValue` (JVMS 4.7.2).
 #[tactic(auto, unfolding(crate::specs::ReadingMembers::value_at))]
@@ -160,50 +162,27 @@ fn head_at<'a>(pool: &Pool, bytes: &'a [u8]) -> Result<(Head, &'a [u8]), ReadRef
     Ok((head, rest))
 }
 
-/// The type of a field whose descriptor has this index.
-#[tactic(auto, unfolding(crate::specs::ReadingMembers::field_type))]
-fn field_type(alloc: Global, pool: &Pool, index: u16) -> Result<Kind, ReadRefusal>
-    ensures { Gives (λ kind. kind) result (field_type pool.now index) }
-{
-    let Some(text) = pool.utf8(index) else {
-        return Err(ReadRefusal::BadDescriptor { index });
-    };
-    match read_field_descriptor(alloc, text) {
-        Ok(kind) => Ok(kind),
-        Err(DescriptorRefusal::BadDescriptor) => Err(ReadRefusal::BadDescriptor { index }),
-        Err(DescriptorRefusal::Memory) => Err(ReadRefusal::Memory),
-    }
-}
-
-/// The types of a method whose descriptor has this index.
-#[tactic(auto, unfolding(crate::specs::ReadingMembers::method_type))]
-fn method_type(alloc: Global, pool: &Pool, index: u16) -> Result<Descriptor, ReadRefusal>
-    ensures { Gives (λ descriptor. descriptor) result (method_type pool.now index) }
-{
-    let Some(text) = pool.utf8(index) else {
-        return Err(ReadRefusal::BadDescriptor { index });
-    };
-    match read_descriptor(alloc, text) {
-        Ok(descriptor) => Ok(descriptor),
-        Err(DescriptorRefusal::BadDescriptor) => Err(ReadRefusal::BadDescriptor { index }),
-        Err(DescriptorRefusal::Memory) => Err(ReadRefusal::Memory),
-    }
-}
-
 /// Flags, name and descriptor of a field, by the rules.
 #[tactic(auto, unfolding(crate::specs::ReadingMembers::field_head_at))]
 fn field_head_at<'a>(
-    alloc: Global,
     class_flags: u16,
     pool: &Pool,
+    texts: &Texts,
     earlier: &[Member],
+    seen: &Seen,
     bytes: &'a [u8],
 ) -> Result<(Head, &'a [u8]), ReadRefusal>
+    requires texts { AreTexts pool.now texts.now }
+    requires seen { AreSeen pool.now texts.now earlier.now seen.now }
     ensures { Gives (λ x. (x.0, x.1.now)) result (field_head_at class_flags pool.now earlier.now bytes.now) }
 {
     let (head, rest) = head_at(pool, bytes)?;
-    let _kind = field_type(alloc, pool, head.descriptor)?;
-    if !is_field_head(class_flags, head) || is_declared(pool, earlier, head) {
+    if !is_field_at(texts, head.descriptor) {
+        return Err(ReadRefusal::BadDescriptor {
+            index: head.descriptor,
+        });
+    }
+    if !is_field_head(class_flags, head) || is_declared(pool, texts, earlier, seen, head) {
         return Err(ReadRefusal::BadShape);
     }
     Ok((head, rest))
@@ -212,17 +191,26 @@ fn field_head_at<'a>(
 /// Flags, name and descriptor of a method, by the rules.
 #[tactic(auto, unfolding(crate::specs::ReadingMembers::method_head_at))]
 fn method_head_at<'a>(
-    alloc: Global,
     class_flags: u16,
     pool: &Pool,
+    texts: &Texts,
     earlier: &[Member],
+    seen: &Seen,
     bytes: &'a [u8],
 ) -> Result<(Head, &'a [u8]), ReadRefusal>
+    requires texts { AreTexts pool.now texts.now }
+    requires seen { AreSeen pool.now texts.now earlier.now seen.now }
     ensures { Gives (λ x. (x.0, x.1.now)) result (method_head_at class_flags pool.now earlier.now bytes.now) }
 {
     let (head, rest) = head_at(pool, bytes)?;
-    let descriptor = method_type(alloc, pool, head.descriptor)?;
-    if !is_method_head(class_flags, pool, head, &descriptor) || is_declared(pool, earlier, head) {
+    let Some(shape) = shape_at(texts, head.descriptor) else {
+        return Err(ReadRefusal::BadDescriptor {
+            index: head.descriptor,
+        });
+    };
+    if !is_method_head(class_flags, pool, head, shape)
+        || is_declared(pool, texts, earlier, seen, head)
+    {
         return Err(ReadRefusal::BadShape);
     }
     Ok((head, rest))
@@ -231,15 +219,18 @@ fn method_head_at<'a>(
 /// A field of a class with these flags, behind the earlier ones.
 #[tactic(auto, unfolding(crate::specs::ReadingMembers::field_at))]
 fn field_at<'a>(
-    alloc: Global,
     class_flags: u16,
     pool: &Pool,
+    texts: &Texts,
     earlier: &[Member],
+    seen: &Seen,
     bytes: &'a [u8],
 ) -> Result<(Member, &'a [u8]), ReadRefusal>
+    requires texts { AreTexts pool.now texts.now }
+    requires seen { AreSeen pool.now texts.now earlier.now seen.now }
     ensures { Gives (λ x. (x.0, x.1.now)) result (field_at class_flags pool.now earlier.now bytes.now) }
 {
-    let (head, rest) = field_head_at(alloc, class_flags, pool, earlier, bytes)?;
+    let (head, rest) = field_head_at(class_flags, pool, texts, earlier, seen, bytes)?;
     let (constant, rest) = field_attributes_at(pool, rest)?;
     let field = Member {
         flags: head.flags,
@@ -257,12 +248,16 @@ fn method_at<'a>(
     alloc: Global,
     class_flags: u16,
     pool: &Pool,
+    texts: &Texts,
     earlier: &[Member],
+    seen: &Seen,
     bytes: &'a [u8],
 ) -> Result<(Member, &'a [u8]), ReadRefusal>
+    requires texts { AreTexts pool.now texts.now }
+    requires seen { AreSeen pool.now texts.now earlier.now seen.now }
     ensures { Gives (λ x. (x.0, x.1.now)) result (method_at class_flags pool.now earlier.now bytes.now) }
 {
-    let (head, rest) = method_head_at(alloc, class_flags, pool, earlier, bytes)?;
+    let (head, rest) = method_head_at(class_flags, pool, texts, earlier, seen, bytes)?;
     let (code, rest) = method_attributes_at(alloc, pool, is_abstract(head.flags), rest)?;
     let method = Member {
         flags: head.flags,
@@ -279,15 +274,19 @@ fn field_list<'a>(
     alloc: Global,
     class_flags: u16,
     pool: &Pool,
+    texts: &Texts,
     count: u16,
     bytes: &'a [u8],
 ) -> Result<(Vec<Member>, &'a [u8]), ReadRefusal>
+    requires { AreTexts pool.now texts.now }
     ensures { Gives (λ x. (x.0.items, x.1.now)) result (steps_at (one_more (field_at class_flags pool.now)) [] count bytes.now) }
 {
     let mut fields = Vec::new(alloc);
+    let mut seen = BTreeSet::new(alloc);
     let mut rest = bytes;
     for _ in 0..count {
-        let (field, after) = field_at(alloc, class_flags, pool, fields.as_slice(), rest)?;
+        let (field, after) = field_at(class_flags, pool, texts, fields.as_slice(), &seen, rest)?;
+        note(texts, &mut seen, &field)?;
         fields.push(field)?;
         rest = after;
     }
@@ -300,12 +299,14 @@ pub(crate) fn fields_at<'a>(
     alloc: Global,
     class_flags: u16,
     pool: &Pool,
+    texts: &Texts,
     bytes: &'a [u8],
 ) -> Result<(Items<Member>, &'a [u8]), ReadRefusal>
+    requires { AreTexts pool.now texts.now }
     ensures { Gives (λ x. (x.0, x.1.now)) result (fields_at class_flags pool.now bytes.now) }
 {
     let (count, rest) = u2_at(bytes)?;
-    let (fields, rest) = field_list(alloc, class_flags, pool, count, rest)?;
+    let (fields, rest) = field_list(alloc, class_flags, pool, texts, count, rest)?;
     Ok((Items::from_vec(fields), rest))
 }
 
@@ -314,15 +315,27 @@ fn method_list<'a>(
     alloc: Global,
     class_flags: u16,
     pool: &Pool,
+    texts: &Texts,
     count: u16,
     bytes: &'a [u8],
 ) -> Result<(Vec<Member>, &'a [u8]), ReadRefusal>
+    requires { AreTexts pool.now texts.now }
     ensures { Gives (λ x. (x.0.items, x.1.now)) result (steps_at (one_more (method_at class_flags pool.now)) [] count bytes.now) }
 {
     let mut methods = Vec::new(alloc);
+    let mut seen = BTreeSet::new(alloc);
     let mut rest = bytes;
     for _ in 0..count {
-        let (method, after) = method_at(alloc, class_flags, pool, methods.as_slice(), rest)?;
+        let (method, after) = method_at(
+            alloc,
+            class_flags,
+            pool,
+            texts,
+            methods.as_slice(),
+            &seen,
+            rest,
+        )?;
+        note(texts, &mut seen, &method)?;
         methods.push(method)?;
         rest = after;
     }
@@ -335,11 +348,13 @@ pub(crate) fn methods_at<'a>(
     alloc: Global,
     class_flags: u16,
     pool: &Pool,
+    texts: &Texts,
     bytes: &'a [u8],
 ) -> Result<(Items<Member>, &'a [u8]), ReadRefusal>
+    requires { AreTexts pool.now texts.now }
     ensures { Gives (λ x. (x.0, x.1.now)) result (methods_at class_flags pool.now bytes.now) }
 {
     let (count, rest) = u2_at(bytes)?;
-    let (methods, rest) = method_list(alloc, class_flags, pool, count, rest)?;
+    let (methods, rest) = method_list(alloc, class_flags, pool, texts, count, rest)?;
     Ok((Items::from_vec(methods), rest))
 }

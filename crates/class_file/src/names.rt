@@ -2,7 +2,7 @@
 
 ghost use Rattle.std.specs.Prelude.{◌≡◌};
 ghost use Rattle.class_pool.specs.Pool.{utf8_at, is_utf8_at, is_class_at};
-ghost use Rattle.class_file.specs.Rules.{is_named, is_array_name, names_class, is_same_text, is_special_name};
+ghost use Rattle.class_file.specs.Rules.{is_named, is_array_name, names_class, is_special_name};
 
 use class_pool::{Const, Pool};
 
@@ -26,16 +26,6 @@ pub(crate) fn is_text(pool: &Pool, index: u16, text: &[u8]) -> bool
 {
     match pool.utf8(index) {
         Some(found) => found == text,
-        None => false,
-    }
-}
-
-/// The texts at two indexes are the same.
-pub(crate) fn is_same_text(pool: &Pool, first: u16, second: u16) -> bool
-    ensures { result ≡ is_same_text (utf8_at pool.now first) (utf8_at pool.now second) }
-{
-    match pool.utf8(first) {
-        Some(text) => is_text(pool, second, text),
         None => false,
     }
 }

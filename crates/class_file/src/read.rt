@@ -19,6 +19,7 @@ use crate::member::{fields_at, methods_at};
 use crate::names::names_class;
 use crate::record::{ClassFile, Member};
 use crate::refusal::ReadRefusal;
+use crate::texts::texts_of;
 use class_pool::{Pool, PoolRefusal, read_pool};
 use item_list::Items;
 use std::alloc::Global;
@@ -159,8 +160,9 @@ fn members_at<'a>(
 ) -> Result<((Items<Member>, Items<Member>), &'a [u8]), ReadRefusal>
     ensures { Gives (λ x. (x.0, x.1.now)) result (members_at class_flags pool.now bytes.now) }
 {
-    let (fields, rest) = fields_at(alloc, class_flags, pool, bytes)?;
-    let (methods, rest) = methods_at(alloc, class_flags, pool, rest)?;
+    let texts = texts_of(alloc, pool)?;
+    let (fields, rest) = fields_at(alloc, class_flags, pool, &texts, bytes)?;
+    let (methods, rest) = methods_at(alloc, class_flags, pool, &texts, rest)?;
     let rest = skip_all_at(pool, rest)?;
     Ok(((fields, methods), rest))
 }

@@ -2,49 +2,19 @@
 //! member shows them in front of its attributes.
 
 ghost use Rattle.std.specs.Prelude.{◌≡◌};
-ghost use Rattle.class_file.specs.Rules.{is_same_member, is_constructor, is_initialiser, fits_interface_method, is_static_method, fits_abstract, fits_special_name, fits_constructor, fits_initialiser, places_of, argument_places, fits_places};
-ghost use Rattle.class_file.specs.ReadingMembers.{head_in, is_declared, is_field_head, is_method_head};
+ghost use Rattle.class_pool.specs.declared.descriptor.Descriptor.{Descriptor as Record};
+ghost use Rattle.class_file.specs.Rules.{is_constructor, is_initialiser, fits_interface_method, is_static_method, fits_abstract, fits_special_name, fits_constructor, fits_initialiser, fits_places};
+ghost use Rattle.class_file.specs.ReadingMembers.{is_field_head, is_method_head};
+ghost use Rattle.class_file.specs.Texts.{shape_of};
 
 use crate::flags::{
     fits_interface_field, has_one_access, is_abstract, is_final, is_interface, is_native,
     is_private, is_public, is_static,
 };
 use crate::head::Head;
-use crate::names::{is_same_text, is_special_name, is_text};
-use crate::record::Member;
-use class_pool::{Descriptor, Kind, Pool};
-
-/// What stands in front of the attributes of a member.
-fn head_in(member: &Member) -> Head
-    ensures { result ≡ head_in member.now }
-{
-    Head {
-        flags: member.flags,
-        name: member.name,
-        descriptor: member.descriptor,
-    }
-}
-
-/// Two members have the same name and the same descriptor.
-fn is_same_member(pool: &Pool, first: Head, second: Head) -> bool
-    ensures { result ≡ is_same_member pool.now first second }
-{
-    is_same_text(pool, first.name, second.name)
-        && is_same_text(pool, first.descriptor, second.descriptor)
-}
-
-/// A member of the same name and descriptor stands among the earlier ones.
-#[tactic(auto, unfolding(crate::specs::ReadingMembers::is_declared))]
-pub(crate) fn is_declared(pool: &Pool, earlier: &[Member], head: Head) -> bool
-    ensures { result ≡ is_declared pool.now earlier.now head }
-{
-    for member in earlier {
-        if is_same_member(pool, head_in(member), head) {
-            return true;
-        }
-    }
-    false
-}
+use crate::names::{is_special_name, is_text};
+use crate::texts::MethodShape;
+use class_pool::Pool;
 
 /// The flags of a field go together.
 pub(crate) fn is_field_head(class_flags: u16, head: Head) -> bool
@@ -99,11 +69,11 @@ fn fits_special_name(pool: &Pool, head: Head) -> bool
 }
 
 /// `<init>` is not static or abstract, and has no result.
-fn fits_constructor(pool: &Pool, head: Head, descriptor: &Descriptor) -> bool
-    ensures { result ≡ fits_constructor pool.now head descriptor.now }
+fn fits_constructor(pool: &Pool, head: Head, shape: MethodShape) -> bool
+    ensures { (type : Record) → shape ≡ shape_of type → result ≡ fits_constructor pool.now head type }
 {
     !is_constructor(pool, head)
-        || (!is_static(head.flags) && !is_abstract(head.flags) && descriptor.result.is_none())
+        || (!is_static(head.flags) && !is_abstract(head.flags) && !shape.has_result)
 }
 
 /// `<clinit>` has no parameters and no result.
@@ -113,50 +83,28 @@ fn fits_initialiser(pool: &Pool, head: Head) -> bool
     !is_initialiser(pool, head) || is_text(pool, head.descriptor, b"()V")
 }
 
-/// How many argument places a parameter takes (JVMS 4.3.3).
-fn places_of(kind: &Kind) -> u8
-    ensures { result ≡ places_of kind.now }
+/// The parameters, and `this` where there is one, take at most 255 argument places (JVMS 4.3.3).
+fn fits_places(pool: &Pool, head: Head, shape: MethodShape) -> bool
+    ensures { (type : Record) → shape ≡ shape_of type → result ≡ fits_places pool.now head type }
 {
-    match kind {
-        Kind::Long | Kind::Double => 2,
-        _ => 1,
-    }
-}
-
-/// The parameters, and `this` where there is one, take at most 255 argument places.
-fn fits_places(pool: &Pool, head: Head, descriptor: &Descriptor) -> bool
-    ensures { result ≡ fits_places pool.now head descriptor.now }
-{
-    let mut room = if is_static_method(pool, head) {
+    let most = if is_static_method(pool, head) {
         255
     } else {
         254
     };
-    for kind in descriptor.params.as_slice() {
-        let places = places_of(kind);
-        if room < places {
-            return false;
-        }
-        room -= places;
-    }
-    true
+    shape.places <= most
 }
 
 /// The flags, the name and the descriptor of a method go together.
-pub(crate) fn is_method_head(
-    class_flags: u16,
-    pool: &Pool,
-    head: Head,
-    descriptor: &Descriptor,
-) -> bool
-    ensures { result ≡ is_method_head class_flags pool.now head descriptor.now }
+pub(crate) fn is_method_head(class_flags: u16, pool: &Pool, head: Head, shape: MethodShape) -> bool
+    ensures { (type : Record) → shape ≡ shape_of type → result ≡ is_method_head class_flags pool.now head type }
 {
     has_one_access(head.flags)
         && fits_interface_method(class_flags, pool, head)
         && !is_native(head.flags)
         && fits_abstract(pool, head)
         && fits_special_name(pool, head)
-        && fits_constructor(pool, head, descriptor)
+        && fits_constructor(pool, head, shape)
         && fits_initialiser(pool, head)
-        && fits_places(pool, head, descriptor)
+        && fits_places(pool, head, shape)
 }

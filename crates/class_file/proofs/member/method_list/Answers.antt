@@ -1,23 +1,33 @@
-use Rattle.std.proofs.Common.{◌≡◌, ◌++◌, ◌∷◌, []}
+use Rattle.std.proofs.Common.{◌≡◌, ◌++◌, ◌∷◌, [], rules}
 use Rattle.std.proofs.lemmas.Result.{err_from_is_err_and}
 use Rattle.class_file.specs.Reading.{steps_at, one_more}
 use Rattle.class_file.specs.ReadingMembers.{method_at}
 use Rattle.class_file.proofs.Loop.{item_goes_on, item_ends, is_done}
+use Rattle.class_file.proofs.SameTexts.{none_seen}
 use Rattle.class_file.proofs.member.method_list.Goals as goal
+
+pub loop-init : goal.loop-init
+loop-init c = (search rules, rw c.new-methods.ensures.items (none_seen c.args.pool.now c.args.texts.now c.new-seen.result c.new-seen.ensures.empty))
+
+pub method_at-requires-clause-seen : goal.method_at-requires-clause-seen
+method_at-requires-clause-seen c = rw c.as_slice.ensures.value c.loop.invariant.1
 
 pub returns-in_err-method : goal.returns-in_err-method
 returns-in_err-method c =
     let item = method_at c.args.class_flags c.args.pool.now in
     let p = err_from_is_err_and c.from_residual.result c.from_residual.ensures.1 in
-    rw (p.1, p.2) (item_ends c.in_err-method.field-0.0 item c.loop.methods.items c.args.count c.loop.counter c.loop.rest.now (steps_at (one_more item) [] c.args.count c.args.bytes.now) c.loop-test.true (rw c.as_slice.ensures.value at c.in_err-method.ensures) c.loop.invariant)
+    rw (p.1, p.2) (item_ends c.in_err-method.field-0.0 item c.loop.methods.items c.args.count c.loop.counter c.loop.rest.now (steps_at (one_more item) [] c.args.count c.args.bytes.now) c.loop-test.true (rw c.as_slice.ensures.value at c.in_err-method.ensures) c.loop.invariant.0)
 
 pub loop-preserved : goal.loop-preserved
 loop-preserved c =
     let item = method_at c.args.class_flags c.args.pool.now in
     let pushed : c.push.new.self.items ≡ c.loop.methods.items ++ c.in_ok-method.method ∷ [] = c.in_ok-push.ensures.items in
-    rw pushed (item_goes_on item c.loop.methods.items c.args.count c.loop.counter c.loop.rest.now c.in_ok-method.method c.in_ok-method.after.now (steps_at (one_more item) [] c.args.count c.args.bytes.now) c.loop-test.true (rw c.as_slice.ensures.value at c.in_ok-method.ensures) c.loop.invariant)
+    rw pushed (
+      item_goes_on item c.loop.methods.items c.args.count c.loop.counter c.loop.rest.now c.in_ok-method.method c.in_ok-method.after.now (steps_at (one_more item) [] c.args.count c.args.bytes.now) c.loop-test.true (rw c.as_slice.ensures.value at c.in_ok-method.ensures) c.loop.invariant.0,
+      c.in_ok-note.ensures.seen c.args.pool.now c.loop.methods.items c.requires c.loop.invariant.1,
+    )
 
 pub returns : goal.returns
 returns c =
     let item = method_at c.args.class_flags c.args.pool.now in
-    is_done (one_more item) c.loop.methods.items c.args.count c.loop.counter c.loop.rest.now (steps_at (one_more item) [] c.args.count c.args.bytes.now) c.loop-test.false c.loop.invariant
+    is_done (one_more item) c.loop.methods.items c.args.count c.loop.counter c.loop.rest.now (steps_at (one_more item) [] c.args.count c.args.bytes.now) c.loop-test.false c.loop.invariant.0
