@@ -15,6 +15,8 @@ mod flags;
 mod head;
 mod laws;
 mod member;
+#[cfg(test)]
+mod member_tests;
 mod names;
 mod one_main;
 mod read;
