@@ -50,7 +50,7 @@ fn refuses_each_part_of_a_class(rt: HostRuntime) -> Result<(), Fail> {
 #[test]
 fn answers_each_change_of_one_byte(rt: HostRuntime) {
     for place in 0..154 {
-        for change in [1, 2, 4, 8, 0x10, 0x20, 0x40, 0x80, 0xff] {
+        for change in 1..=255 {
             let mut bytes = HI;
             bytes[place] ^= change;
             let got = read_class(rt.alloc(), &bytes).err();
