@@ -4,8 +4,9 @@ pub mod Steps
 pub mod Sizes
 pub mod Places
 pub mod Written
-pub mod Bodies
+pub mod RisingPcs
 pub mod Spreads
+pub mod ExitWays
 pub mod Reaching
 pub mod Form
 pub mod FamilySizes
@@ -16,6 +17,7 @@ pub mod Images
 pub mod NumberBodies
 pub mod PlainInsns
 pub mod Scans
+pub mod OutsideFirsts
 pub mod ReadSets
 pub mod Verdicts
 pub mod SetElements

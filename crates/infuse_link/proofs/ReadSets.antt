@@ -1,6 +1,5 @@
 -- Sets whose files are read: what the records say is what the files say.
-use Rattle.std.proofs.Common.{◌≡◌, ℕ, suc, List, [], ◌∷◌, ◌++◌, length, Option, Some, None, option_and_then, Result, Ok, Err, refl, sym, ap, subst, ◌∙◌}
-use Rattle.std.specs.Prelude.{unwrap_or}
+use Rattle.std.proofs.Common.{◌≡◌, ℕ, suc, List, [], ◌∷◌, ◌++◌, length, Option, Some, None, option_and_then, Result, refl, ap, ◌∙◌}
 use Rattle.std.specs.List.{AllByRecursion}
 use Rattle.std.specs.Option.{option_or}
 use Rattle.class_file.specs.declared.record.ClassFile.{ClassFile}
@@ -8,11 +7,9 @@ use Rattle.class_file.specs.declared.refusal.ReadRefusal.{ReadRefusal}
 use Rattle.class_file.specs.Relation.{IsClassFile}
 use Rattle.class_file.specs.ReadingClass.{class_of}
 use Rattle.class_file.proofs.Whole.{file_again}
-use Rattle.jvm_model.specs.declared.refusal.Cause.TheVariants.{Unbuilt}
 use Rattle.jvm_model.specs.declared.refusal.Refusal.{Refusal}
 use Rattle.jvm_model.specs.Phases.{first_refusal, size_refusal, unless_read, reading_refusal, record_in, class_refusal, code_refusal, early_refusal}
-use Rattle.jvm_model.specs.Accepted.{outside_class, outside_file, refusal_by, unbuilt_refusal}
-use Rattle.infuse_link.specs.Sets.{AreRead, IsRecord, unbuilt_classes}
+use Rattle.infuse_link.specs.Sets.{AreRead, IsRecord}
 
 -- one more file, and its record
 pub one_more : (files : List (List ℕ)) (classes : List ClassFile) (bytes : List ℕ) (class : ClassFile) → AreRead files classes → IsClassFile bytes class → AreRead (files ++ bytes ∷ []) (classes ++ class ∷ [])
@@ -72,8 +69,3 @@ reading_decides files why size e =
 pub code_decides : (files : List (List ℕ)) (classes : List ClassFile) (found : Option Refusal) → size_refusal files ≡ None → AreRead files classes → first_refusal class_refusal 0 classes ≡ found → early_refusal files ≡ found
 code_decides files classes found size read e =
     both_none (size_refusal files) (first_refusal reading_refusal 0 files) (first_refusal code_refusal 0 files) found size (none_unread 0 files classes read) (scan_same class_refusal 0 files classes read ∙ e)
-
--- ---- the refusal of sets of no form that is built
-
-pub unbuilt_same : (files : List (List ℕ)) (classes : List ClassFile) → AreRead files classes → unbuilt_refusal files ≡ unbuilt_classes classes
-unbuilt_same files classes read = ap (λ r. unwrap_or r (refusal_by Unbuilt)) (scan_same outside_class 0 files classes read)

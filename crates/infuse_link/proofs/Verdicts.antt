@@ -1,5 +1,5 @@
 -- What is answered for a set is its verdict.
-use Rattle.std.proofs.Common.{inl, inr, ◌⊎◌, ◌≡◌, ℕ, ◌<◌, ◌≤◌, List, [], ◌∷◌, length, get_or, Option, Some, None, refl, sym, ap, ◌∙◌, subst, arith}
+use Rattle.std.proofs.Common.{inl, inr, ◌≡◌, ℕ, ◌<◌, ◌≤◌, List, [], ◌∷◌, length, get_or, None, refl, sym, ap, ◌∙◌, subst, arith}
 use Rattle.std.specs.Prelude.{Result, Ok, Err, IfOk, IfErr}
 use Rattle.class_file.specs.declared.record.ClassFile.{ClassFile}
 use Rattle.class_file.specs.declared.record.CodeAttr.{CodeAttr}
@@ -7,22 +7,21 @@ use Rattle.class_file.specs.Relation.{IsClassFile}
 use Rattle.class_file.specs.OneMain.{HasOneMainRecord, IsOneMain}
 use Rattle.class_file.proofs.Whole.{one_record}
 use Rattle.image_form.specs.declared.record.Image.{Image}
-use Rattle.jvm_model.specs.declared.refusal.Cause.{Cause}
 use Rattle.jvm_model.specs.declared.refusal.Cause.TheVariants as cause
 use Rattle.jvm_model.specs.declared.refusal.Refusal.{Refusal}
 use Rattle.jvm_model.specs.Body.{Body}
 use Rattle.jvm_model.specs.NumberForm.{HasNumberMain}
-use Rattle.jvm_model.specs.FrameCells.{frame_cells}
-use Rattle.jvm_model.specs.ImageOf.{code_for, image_of}
-use Rattle.jvm_model.specs.Phases.{first_refusal, size_refusal, class_refusal, early_refusal}
-use Rattle.jvm_model.specs.Accepted.{IsNumberFile, IsAccepted, IsNone, HasLargeFrame, HasLongCode, FailsLate, IsRefused, refusal_of_main, unbuilt_refusal, most_frame_cells, most_code_bytes}
+use Rattle.jvm_model.specs.ImageOf.{image_of}
+use Rattle.jvm_model.specs.Phases.{first_refusal, size_refusal, class_refusal}
+use Rattle.jvm_model.specs.Accepted.{IsNumberFile, IsAccepted, IsNone, FailsLate, IsRefused, refusal_of_main}
 use Rattle.jvm_model.proofs.VerdictLaws.{accepted_or_refused, one_acceptance, one_refusal}
 use Rattle.infuse_link.specs.declared.stop.Stop.{Stop}
 use Rattle.infuse_link.specs.declared.stop.Stop.TheVariants.{Unbuilt, FrameTooLarge, CodeTooLong, Memory}
 use Rattle.infuse_link.specs.Infused.{IsInfused, Gives}
-use Rattle.infuse_link.specs.ClassImage.{IsClassImage, HasLargeMain, HasLongMain, StopsFor, RefusedOrMemory}
+use Rattle.infuse_link.specs.ClassImage.{IsClassImage, StopsFor, RefusedOrMemory}
 use Rattle.infuse_link.specs.Sets.{AreRead, IsOneClass, SetStopsFor, RefusesFor}
-use Rattle.infuse_link.proofs.ReadSets.{code_decides, unbuilt_same}
+use Rattle.infuse_link.proofs.ReadSets.{code_decides}
+use Rattle.infuse_link.proofs.OutsideFirsts.{named_read}
 
 -- ---- the one file of a set
 
@@ -82,7 +81,7 @@ module _ (files : List (List ℕ)) (classes : List ClassFile) (size : size_refus
 
   pub set_refused : (why : Stop) (refusal : Refusal) → SetStopsFor classes why → RefusesFor classes why refusal → RefusedOrMemory files refusal
   set_refused Unbuilt refusal stops (inl memory) = inl memory
-  set_refused Unbuilt refusal stops (inr is) = late refusal (inl (record { none = none_of files classes read stops; is = is ∙ sym (unbuilt_same files classes read) }))
+  set_refused Unbuilt refusal stops (inr names) = late refusal (inl (record { none = none_of files classes read stops; names = named_read files classes refusal read names }))
   set_refused (FrameTooLarge cells) refusal stops is =
       let one = file_of files classes stops.class read stops.classes_are in
       late refusal

@@ -2,6 +2,7 @@ pub mod Infused
 pub mod RunsAlike
 pub mod NumberInsns
 pub mod Tests
+pub mod Exits
 pub mod Reach
 pub mod Offsets
 pub mod ClassImage

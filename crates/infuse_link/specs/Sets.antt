@@ -1,21 +1,20 @@
 -- The records of the files of a set, and why a set of records has no image.
-use Rattle.std.specs.Prelude.{◌≡◌, ◌⊎◌, ℕ, List, [], ◌∷◌, Option, option_map, unwrap_or}
+use Rattle.std.specs.Prelude.{◌≡◌, ◌⊎◌, ℕ, Bool, not, ◌||◌, List, [], ◌∷◌, Option, option_map}
 use Rattle.class_pool.specs.Pool.{Places}
+use Rattle.class_code.specs.declared.insn.Insn.{Insn}
 use Rattle.class_code.specs.Code.{Insns, first_other}
 use Rattle.class_file.specs.declared.record.ClassFile.{ClassFile}
 use Rattle.class_file.specs.declared.record.CodeAttr.{CodeAttr}
 use Rattle.class_file.specs.Relation.{IsClassFile}
 use Rattle.class_file.specs.OneMain.{HasOneMainRecord}
-use Rattle.image_form.specs.declared.record.Image.{Image}
 use Rattle.jvm_model.specs.declared.refusal.Refusal.{Refusal}
 use Rattle.jvm_model.specs.declared.refusal.Cause.TheVariants as cause
 use Rattle.jvm_model.specs.Body.{Body}
 use Rattle.jvm_model.specs.NumberForm.{HasNumberMain}
-use Rattle.jvm_model.specs.Phases.{first_refusal}
-use Rattle.jvm_model.specs.Accepted.{is_plain_insn, outside_class, refusal_by, refusal_of_main}
+use Rattle.jvm_model.specs.Accepted.{is_plain_insn, NamesFirst, OutsideClass, refusal_of_main}
 use Rattle.infuse_link.specs.declared.stop.Stop.{Stop}
 use Rattle.infuse_link.specs.declared.stop.Stop.TheVariants.{Unbuilt, FrameTooLarge, CodeTooLong, Memory}
-use Rattle.infuse_link.specs.ClassImage.{IsClassImage, HasLargeMain, HasLongMain}
+use Rattle.infuse_link.specs.ClassImage.{HasLargeMain, HasLongMain}
 
 -- the files are class files with these records, one by one
 abbrev pub AreRead : List (List ℕ) → List ClassFile → Type 0
@@ -41,17 +40,17 @@ SetStopsFor classes (FrameTooLarge cells) = IsOneClass classes (λ class. HasLar
 SetStopsFor classes (CodeTooLong bytes) = IsOneClass classes (λ class. HasLongMain class bytes)
 SetStopsFor classes Memory = Unit {0}
 
--- the pc of the first of these instructions that is outside the form
-abbrev pub first_outside : Places → Insns → Option ℕ
-first_outside pool insns = option_map (λ x. x.0) (first_other (λ x. is_plain_insn pool x.1) insns)
+-- the instruction is not in the set, or it is of the form
+abbrev pub is_inside : Places → (ℕ → Bool) → ℕ × Insn → Bool
+is_inside pool reached x = not (reached x.0) || is_plain_insn pool x.1
 
--- the refusal of classes of no form that is built
-abbrev pub unbuilt_classes : List ClassFile → Refusal
-unbuilt_classes classes = unwrap_or (first_refusal outside_class 0 classes) (refusal_by cause.Unbuilt)
+-- the pc of the first of these instructions that is in the set and outside the form
+abbrev pub first_outside : Places → (ℕ → Bool) → Insns → Option ℕ
+first_outside pool reached insns = option_map (λ x. x.0) (first_other (is_inside pool reached) insns)
 
 -- the refusal of classes that have no image for this reason, or of want of memory
 abbrev pub RefusesFor : List ClassFile → Stop → Refusal → Type 0
-RefusesFor classes Unbuilt refusal = (refusal.cause ≡ cause.Memory) ⊎ (refusal ≡ unbuilt_classes classes)
+RefusesFor classes Unbuilt refusal = (refusal.cause ≡ cause.Memory) ⊎ NamesFirst OutsideClass classes refusal
 RefusesFor classes (FrameTooLarge cells) refusal = refusal ≡ refusal_of_main cause.FrameTooLarge cells
 RefusesFor classes (CodeTooLong bytes) refusal = refusal ≡ refusal_of_main cause.CodeTooLong bytes
 RefusesFor classes Memory refusal = refusal ≡ refusal_of_main cause.Memory 0

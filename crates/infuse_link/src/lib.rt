@@ -6,6 +6,7 @@
 
 mod body;
 mod emit;
+mod exits;
 mod infusing;
 mod locals;
 mod marks;

@@ -1,26 +1,27 @@
-//! Sets of no form that is built: which instruction is the first outside the form.
+//! Sets of no form that is built: which instruction is the first that is reached and outside the form.
 
-ghost use Rattle.std.specs.Prelude.{◌≡◌, ◌⊎◌, Some, None, IfOk, IfErr, OnOk, option_map, map};
+ghost use Rattle.std.specs.Prelude.{◌≡◌, ◌⊎◌, Some, None, false, get_or, IfErr, OnOk};
 ghost use Rattle.jvm_model.specs.declared.refusal.Cause.TheVariants as cause;
-ghost use Rattle.class_code.specs.Code.{first_other};
-ghost use Rattle.jvm_model.specs.Phases.{first_refusal};
-ghost use Rattle.jvm_model.specs.Accepted.{is_plain_insn as is_plain_insn_of, unbuilt_at as unbuilt_at_of, outside_code, outside_method, outside_class};
-ghost use Rattle.infuse_link.specs.Sets.{first_outside as first_outside_of, unbuilt_classes};
+ghost use Rattle.class_code.specs.Code.{RiseFrom};
+ghost use Rattle.jvm_model.specs.Accepted.{unbuilt_at as unbuilt_at_of, FirstOf, NamesFirst, OutsideInsns, OutsideCode, OutsideMethod, OutsideClass};
+ghost use Rattle.infuse_link.specs.Sets.{first_outside as first_outside_of};
 
+use crate::marks::has;
 use crate::number_insn::of_form;
+use crate::reach::reached_pcs;
 use crate::sets::saturated;
 use class_code::{CodeRefusal, Insn, decode};
-use class_file::{ClassFile, CodeAttr, Member};
+use class_file::{ClassFile, CodeAttr, HandlerRow, Member};
 use class_pool::Pool;
 use jvm_model::{Cause, Refusal};
 use std::alloc::Global;
 
-/// The pc of the first of these instructions that is outside the form.
-fn first_outside(pool: &Pool, insns: &[(u32, Insn)]) -> Option<u32>
-    ensures { result ≡ first_outside_of pool.now insns.now }
+/// The pc of the first of these instructions that is in the set and outside the form.
+fn first_outside(pool: &Pool, marks: &[bool], insns: &[(u32, Insn)]) -> Option<u32>
+    ensures { result ≡ first_outside_of pool.now (λ n. get_or marks.now n false) insns.now }
 {
     for x in insns {
-        if of_form(pool, &x.1).is_none() {
+        if has(marks, x.0 as usize) && of_form(pool, &x.1).is_none() {
             return Some(x.0);
         }
     }
@@ -53,7 +54,29 @@ fn no_memory() -> Refusal
     }
 }
 
-/// Tests that each instruction of some code is of the form.
+/// Tests that each of these instructions that is reached is of the form.
+fn test_insns(
+    alloc: Global,
+    file: usize,
+    member: usize,
+    pool: &Pool,
+    handlers: &[HandlerRow],
+    insns: &[(u32, Insn)],
+) -> Result<(), Refusal>
+    requires { RiseFrom 0 insns.now }
+    ensures inside { OnOk result (OutsideInsns file member pool.now handlers.now insns.now None) }
+    ensures refused { IfErr result (λ why. (why.cause ≡ cause.Memory) ⊎ OutsideInsns file member pool.now handlers.now insns.now (Some why)) }
+{
+    let Ok(marks) = reached_pcs(alloc, handlers, insns) else {
+        return Err(no_memory());
+    };
+    match first_outside(pool, marks.as_slice(), insns) {
+        Some(pc) => Err(unbuilt_at(file, member, pc)),
+        None => Ok(()),
+    }
+}
+
+/// Tests that each instruction of some code that is reached is of the form.
 fn test_code(
     alloc: Global,
     file: usize,
@@ -61,20 +84,20 @@ fn test_code(
     pool: &Pool,
     code: &CodeAttr,
 ) -> Result<(), Refusal>
-    ensures inside { OnOk result (outside_code file member pool.now code.now ≡ None) }
-    ensures refused { IfErr result (λ why. (why.cause ≡ cause.Memory) ⊎ (outside_code file member pool.now code.now ≡ Some why)) }
+    ensures inside { OnOk result (OutsideCode file member pool.now code.now None) }
+    ensures refused { IfErr result (λ why. (why.cause ≡ cause.Memory) ⊎ OutsideCode file member pool.now code.now (Some why)) }
 {
     match decode(alloc, code.code.as_slice()) {
-        Ok(list) => match first_outside(pool, list.as_slice()) {
-            Some(pc) => Err(unbuilt_at(file, member, pc)),
-            None => Ok(()),
-        },
+        Ok(list) => {
+            let handlers = code.handlers.as_slice();
+            test_insns(alloc, file, member, pool, handlers, list.as_slice())
+        }
         Err(CodeRefusal::Memory) => Err(no_memory()),
         Err(CodeRefusal::Unsupported { .. } | CodeRefusal::BadCode { .. }) => Ok(()),
     }
 }
 
-/// Tests that each instruction of a method is of the form.
+/// Tests that each instruction of a method that is reached is of the form.
 fn test_method(
     alloc: Global,
     file: usize,
@@ -82,8 +105,8 @@ fn test_method(
     pool: &Pool,
     method: &Member,
 ) -> Result<(), Refusal>
-    ensures inside { OnOk result (outside_method file pool.now member method.now ≡ None) }
-    ensures refused { IfErr result (λ why. (why.cause ≡ cause.Memory) ⊎ (outside_method file pool.now member method.now ≡ Some why)) }
+    ensures inside { OnOk result (OutsideMethod file pool.now member method.now None) }
+    ensures refused { IfErr result (λ why. (why.cause ≡ cause.Memory) ⊎ OutsideMethod file pool.now member method.now (Some why)) }
 {
     match &method.code {
         Some(code) => test_code(alloc, file, member, pool, code),
@@ -91,10 +114,10 @@ fn test_method(
     }
 }
 
-/// Tests that each instruction of a class is of the form.
+/// Tests that each instruction of a class that is reached is of the form.
 fn test_class(alloc: Global, file: usize, class: &ClassFile) -> Result<(), Refusal>
-    ensures inside { OnOk result (outside_class file class.now ≡ None) }
-    ensures refused { IfErr result (λ why. (why.cause ≡ cause.Memory) ⊎ (outside_class file class.now ≡ Some why)) }
+    ensures inside { OnOk result (OutsideClass file class.now None) }
+    ensures refused { IfErr result (λ why. (why.cause ≡ cause.Memory) ⊎ OutsideClass file class.now (Some why)) }
 {
     for (member, method) in class.methods.as_slice().iter().enumerate() {
         match test_method(alloc, file, member, &class.pool, method) {
@@ -105,10 +128,10 @@ fn test_class(alloc: Global, file: usize, class: &ClassFile) -> Result<(), Refus
     Ok(())
 }
 
-/// Tests that each instruction of each class is of the form.
+/// Tests that each instruction of each class that is reached is of the form.
 fn test_classes(alloc: Global, classes: &[ClassFile]) -> Result<(), Refusal>
-    ensures inside { OnOk result (first_refusal outside_class 0 classes.now ≡ None) }
-    ensures refused { IfErr result (λ why. (why.cause ≡ cause.Memory) ⊎ (first_refusal outside_class 0 classes.now ≡ Some why)) }
+    ensures inside { OnOk result (FirstOf OutsideClass 0 classes.now None) }
+    ensures refused { IfErr result (λ why. (why.cause ≡ cause.Memory) ⊎ FirstOf OutsideClass 0 classes.now (Some why)) }
 {
     for (place, class) in classes.iter().enumerate() {
         match test_class(alloc, place, class) {
@@ -121,7 +144,7 @@ fn test_classes(alloc: Global, classes: &[ClassFile]) -> Result<(), Refusal>
 
 /// The refusal of classes of no form that is built.
 pub(crate) fn unbuilt(alloc: Global, classes: &[ClassFile]) -> Refusal
-    ensures { (result.cause ≡ cause.Memory) ⊎ (result ≡ unbuilt_classes classes.now) }
+    ensures { (result.cause ≡ cause.Memory) ⊎ NamesFirst OutsideClass classes.now result }
 {
     match test_classes(alloc, classes) {
         Err(why) => why,

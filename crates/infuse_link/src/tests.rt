@@ -29,14 +29,29 @@ fn class_with(
     max_locals: u16,
     code: &[u8],
 ) -> Result<Vec<u8>, AllocError> {
+    class_with_rows(alloc, max_stack, max_locals, code, &[])
+}
+
+/// The bytes of the class `M` with this code of main and these bytes of its exception table.
+fn class_with_rows(
+    alloc: Global,
+    max_stack: u16,
+    max_locals: u16,
+    code: &[u8],
+    rows: &[u8],
+) -> Result<Vec<u8>, AllocError> {
     let size = u32::try_from(code.len()).unwrap_or(0);
+    let row_bytes = u16::try_from(rows.len()).unwrap_or(0);
+    let all = size.wrapping_add(u32::from(row_bytes)).wrapping_add(12);
     let mut bytes = Vec::from_slice(alloc, HEAD)?;
-    bytes.extend_from_slice(&size.wrapping_add(12).to_be_bytes())?;
+    bytes.extend_from_slice(&all.to_be_bytes())?;
     bytes.extend_from_slice(&max_stack.to_be_bytes())?;
     bytes.extend_from_slice(&max_locals.to_be_bytes())?;
     bytes.extend_from_slice(&size.to_be_bytes())?;
     bytes.extend_from_slice(code)?;
-    bytes.extend_from_slice(&[0, 0, 0, 0, 0, 0])?;
+    bytes.extend_from_slice(&(row_bytes / 8).to_be_bytes())?;
+    bytes.extend_from_slice(rows)?;
+    bytes.extend_from_slice(&[0, 0, 0, 0])?;
     Ok(bytes)
 }
 
@@ -324,6 +339,74 @@ fn refuses_other_codes(rt: HostRuntime) -> Result<(), Fail> {
             "{}",
             row.shows
         );
+    }
+    Ok(())
+}
+
+/// A main with instructions outside the form: its code, its exception table, and the pc that is named.
+struct Outside {
+    shows: &'static str,
+    code: &'static [u8],
+    rows: &'static [u8],
+    pc: u32,
+}
+
+const OUTSIDE: [Outside; 7] = [
+    Outside {
+        shows: "a null behind a return",
+        code: b"\xb1\x01\x57\xb1",
+        rows: b"",
+        pc: 0,
+    },
+    Outside {
+        shows: "a null that a jump passes, and one at its target",
+        code: b"\xa7\x00\x04\x01\x01\x57\xb1",
+        rows: b"",
+        pc: 4,
+    },
+    Outside {
+        shows: "a null that is reached from itself alone, and one behind a condition",
+        code: b"\xa7\x00\x07\x01\xa7\xff\xff\x03\x9a\x00\x03\x01\x57\xb1",
+        rows: b"",
+        pc: 11,
+    },
+    Outside {
+        shows: "a null at a row of a switch",
+        code: b"\x03\xab\x00\x00\x00\x00\x00\x13\x00\x00\x00\x01\x00\x00\x00\x00\x00\x00\x00\x14\
+\xb1\x01\x57\xb1",
+        rows: b"",
+        pc: 21,
+    },
+    Outside {
+        shows: "the handler of a row that covers what is reached",
+        code: b"\x00\xb1\x4b\xb1",
+        rows: b"\x00\x00\x00\x01\x00\x02\x00\x00",
+        pc: 2,
+    },
+    Outside {
+        shows: "the handler of a row that ends at what is reached",
+        code: b"\xa7\x00\x04\x00\xb1\x4b\xb1",
+        rows: b"\x00\x03\x00\x04\x00\x05\x00\x00",
+        pc: 0,
+    },
+    Outside {
+        shows: "the handlers of handlers",
+        code: b"\xb1\x57\xb1\x4b\xb1",
+        rows: b"\x00\x01\x00\x02\x00\x03\x00\x00\x00\x00\x00\x01\x00\x01\x00\x00",
+        pc: 3,
+    },
+];
+
+#[test]
+fn names_the_first_that_is_reached(rt: HostRuntime) -> Result<(), Fail> {
+    for row in &OUTSIDE {
+        let bytes = class_with_rows(rt.alloc(), 1, 1, row.code, row.rows)?;
+        let why = answer(rt.alloc(), bytes)?.err();
+        let named = Refusal {
+            pc: row.pc,
+            ..refused(Cause::Unbuilt, 0)
+        };
+        assert_eq!(rt; why, Some(named), "{}", row.shows);
     }
     Ok(())
 }

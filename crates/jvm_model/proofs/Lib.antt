@@ -1,5 +1,6 @@
 pub mod CodeBody
 pub mod EarlyPhases
+pub mod OneOutside
 pub mod VerdictLaws
 pub mod Reading
 pub mod NumberSteps

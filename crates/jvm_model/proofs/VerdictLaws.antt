@@ -1,5 +1,5 @@
 -- The verdict is one: a set is accepted or refused, and in one way.
-use Rattle.std.proofs.Common.{◌≡◌, ◌⊎◌, inl, inr, ℕ, ◌<◌, ◌≤◌, List, [], ◌∷◌, length, Option, Some, None, Result, Ok, refl, sym, ap, subst, ◌∙◌, arith}
+use Rattle.std.proofs.Common.{◌≡◌, inl, inr, ℕ, ◌<◌, ◌≤◌, List, [], ◌∷◌, length, None, Result, Ok, sym, ap, subst, ◌∙◌, arith}
 use Rattle.std.proofs.lemmas.Option.{none-some, same_Some}
 use Rattle.class_file.specs.declared.record.ClassFile.{ClassFile}
 use Rattle.class_file.specs.declared.record.CodeAttr.{CodeAttr}
@@ -14,8 +14,9 @@ use Rattle.jvm_model.specs.NumberForm.{HasNumberMain}
 use Rattle.jvm_model.specs.FrameCells.{frame_cells}
 use Rattle.jvm_model.specs.ImageOf.{code_for}
 use Rattle.jvm_model.specs.Phases.{early_refusal}
-use Rattle.jvm_model.specs.Accepted.{most_frame_cells, most_code_bytes, IsNumberFile, IsAccepted, refusal_of_main, IsUnbuilt, HasLargeFrame, HasLongCode, FailsLate, IsRefused}
+use Rattle.jvm_model.specs.Accepted.{most_frame_cells, most_code_bytes, IsNumberFile, IsAccepted, refusal_of_main, OutsideFile, HasLargeFrame, HasLongCode, FailsLate, IsRefused}
 use Rattle.jvm_model.proofs.EarlyPhases.{no_early}
+use Rattle.jvm_model.proofs.OneOutside.{one_named, outside_file_one}
 
 -- ---- one record, one code, one body
 
@@ -92,7 +93,7 @@ large_long files a b x y =
     over_and_under most_frame_cells (frame_cells x.code.max_locals x.body) (frame_cells y.code.max_locals y.body) (same_cells x.code y.code x.body y.body same.1 same.2) x.exceeds y.frame_fits
 
 late_one : (files : List (List ℕ)) (a b : Refusal) → FailsLate files a → FailsLate files b → a ≡ b
-late_one files a b (inl x) (inl y) = x.is ∙ sym y.is
+late_one files a b (inl x) (inl y) = one_named OutsideFile outside_file_one files a b x.names y.names
 late_one files a b (inl x) (inr (inl y)) = absurd (x.none y.bytes y.file y.code y.body y.files_are y.number_file)
 late_one files a b (inl x) (inr (inr y)) = absurd (x.none y.bytes y.file y.code y.body y.files_are y.number_file)
 late_one files a b (inr (inl x)) (inl y) = absurd (y.none x.bytes x.file x.code x.body x.files_are x.number_file)

@@ -1,24 +1,26 @@
 -- The verdict: which sets of class files are accepted, and why another is refused. An accepted set is one
 -- file so far; a file is a list of bytes.
-use Rattle.std.specs.Prelude.{◌≡◌, ℕ, ◌<◌, ◌≤◌, ◌⊎◌, Bool, false, List, [], ◌∷◌, length, Option, Some, None, option_map, option_and_then, unwrap_or}
+use Rattle.std.specs.Prelude.{◌≡◌, ℕ, suc, ◌<◌, ◌≤◌, ◌⊎◌, Bool, true, false, List, [], ◌∷◌, length, Option, Some, None}
 use Rattle.std.specs.Option.{option_map_or}
 use Rattle.class_pool.specs.Pool.{Places}
 use Rattle.class_file.specs.declared.record.ClassFile.{ClassFile}
 use Rattle.class_file.specs.declared.record.CodeAttr.{CodeAttr}
+use Rattle.class_file.specs.declared.record.HandlerRow.{HandlerRow}
 use Rattle.class_file.specs.declared.record.Member.{Member}
 use Rattle.class_file.specs.OneMain.{IsOneMain}
 use Rattle.class_file.specs.ReadingClass.{class_of}
 use Rattle.class_code.specs.declared.insn.Insn.{Insn}
-use Rattle.class_code.specs.Code.{decoded, first_other}
+use Rattle.class_code.specs.Code.{Insns, decoded}
 use Rattle.jvm_model.specs.declared.refusal.Cause.{Cause}
 use Rattle.jvm_model.specs.declared.refusal.Cause.TheVariants.{Unbuilt, FrameTooLarge, CodeTooLong}
 use Rattle.jvm_model.specs.declared.refusal.Refusal.{Refusal}
 use Rattle.jvm_model.specs.Body.{Body, family_of}
 use Rattle.jvm_model.specs.ProgramOf.{insns_in}
+use Rattle.jvm_model.specs.Reached.{Ways, IsReached, code_ways}
 use Rattle.jvm_model.specs.NumberForm.{is_of_form, HasNumberMain}
 use Rattle.jvm_model.specs.FrameCells.{frame_cells}
 use Rattle.jvm_model.specs.ImageOf.{code_for}
-use Rattle.jvm_model.specs.Phases.{saturated, first_refusal, record_in, early_refusal}
+use Rattle.jvm_model.specs.Phases.{saturated, record_in, early_refusal}
 
 -- the most cells of a frame, and the most bytes of a method's machine code
 abbrev pub most_frame_cells : ℕ
@@ -57,34 +59,58 @@ is_plain_insn pool insn = option_map_or is_of_form (family_of pool insn) false
 abbrev pub unbuilt_at : ℕ → ℕ → ℕ → Refusal
 unbuilt_at file member pc = record { cause = Unbuilt; file = saturated file; member = saturated member; pc = pc; value = 0 }
 
--- the first instruction of some code that is outside the form, as a refusal
-abbrev pub outside_code : ℕ → ℕ → Places → CodeAttr → Option Refusal
-outside_code file member pool code =
-    option_map (λ x. unbuilt_at file member x.0) (option_and_then (first_other (λ x. is_plain_insn pool x.1)) (insns_in (decoded code.code)))
+-- ---- the first instruction outside the form
 
-abbrev pub outside_method : ℕ → Places → ℕ → Member → Option Refusal
-outside_method file pool member m = option_and_then (outside_code file member pool) m.code
+-- The first of these that has a refusal has this one, or none of them has one. `Has` says of each, which
+-- is told its place, what its refusal is, or that it has none.
+abbrev pub FirstOf : {X : Type 0} → (ℕ → X → Option Refusal → Type 0) → ℕ → List X → Option Refusal → Type 0
+FirstOf Has place [] None = Unit {0}
+FirstOf Has place [] (Some why) = ⊥
+FirstOf Has place (x ∷ xs) None = Has place x None × FirstOf Has (suc place) xs None
+FirstOf Has place (x ∷ xs) (Some why) = Has place x (Some why) ⊎ (Has place x None × FirstOf Has (suc place) xs (Some why))
 
--- the first instruction of a class that is outside the form
-abbrev pub outside_class : ℕ → ClassFile → Option Refusal
-outside_class file class = first_refusal (outside_method file class.pool) 0 class.methods
+-- where it is there, this is its refusal; else there is none
+abbrev pub IfThere : {X : Type 0} → (X → Option Refusal → Type 0) → Option X → Option Refusal → Type 0
+IfThere Has None found = found ≡ None
+IfThere Has (Some x) found = Has x found
 
-abbrev pub outside_file : ℕ → List ℕ → Option Refusal
-outside_file file bytes = option_and_then (outside_class file) (record_in (class_of bytes))
+-- an instruction is refused that is reached and outside the form
+abbrev pub OutsideInsn : ℕ → ℕ → Places → Ways → ℕ → ℕ × Insn → Option Refusal → Type 0
+OutsideInsn file member pool ways place x None = IsReached ways x.0 → is_plain_insn pool x.1 ≡ true
+OutsideInsn file member pool ways place x (Some why) = IsReached ways x.0 × (is_plain_insn pool x.1 ≡ false) × (why ≡ unbuilt_at file member x.0)
 
--- The set is of no form that is built: the first instruction outside the form is named, in the order of
--- files, methods and pcs. Where all are of the form, no place is named.
-abbrev pub unbuilt_refusal : List (List ℕ) → Refusal
-unbuilt_refusal files = unwrap_or (first_refusal outside_file 0 files) (refusal_by Unbuilt)
+-- the first such instruction in the order of the code, which has this exception table
+abbrev pub OutsideInsns : ℕ → ℕ → Places → List HandlerRow → Insns → Option Refusal → Type 0
+OutsideInsns file member pool rows insns found = FirstOf (OutsideInsn file member pool (code_ways rows insns)) 0 insns found
+
+abbrev pub OutsideCode : ℕ → ℕ → Places → CodeAttr → Option Refusal → Type 0
+OutsideCode file member pool code found = IfThere (OutsideInsns file member pool code.handlers) (insns_in (decoded code.code)) found
+
+abbrev pub OutsideMethod : ℕ → Places → ℕ → Member → Option Refusal → Type 0
+OutsideMethod file pool member m found = IfThere (OutsideCode file member pool) m.code found
+
+-- the first method of a class with such an instruction
+abbrev pub OutsideClass : ℕ → ClassFile → Option Refusal → Type 0
+OutsideClass file class found = FirstOf (OutsideMethod file class.pool) 0 class.methods found
+
+abbrev pub OutsideFile : ℕ → List ℕ → Option Refusal → Type 0
+OutsideFile file bytes found = IfThere (OutsideClass file) (record_in (class_of bytes)) found
+
+-- the refusal is that of the first of these that has one; where none has, it names no place
+abbrev pub NamesFirst : {X : Type 0} → (ℕ → X → Option Refusal → Type 0) → List X → Refusal → Type 0
+NamesFirst Has xs refusal = FirstOf Has 0 xs (Some refusal) ⊎ (FirstOf Has 0 xs None × (refusal ≡ refusal_by Unbuilt))
+
+-- ---- sets that are refused
 
 -- the set is no file of the number form
 abbrev pub IsNone : List (List ℕ) → Type 0
 IsNone files = (bytes : List ℕ) (file : ClassFile) (code : CodeAttr) (body : Body) → files ≡ bytes ∷ [] → IsNumberFile bytes file code body → ⊥
 
--- it is none, and no place is named but that of the first instruction outside the form
+-- The set is of no form that is built. The first instruction is named that is reached and outside the
+-- form, in the order of files, methods and pcs; where there is none, no place is named.
 pub record IsUnbuilt (files : List (List ℕ)) (refusal : Refusal) : Type 0 where
   pub none : IsNone files
-  pub is : refusal ≡ unbuilt_refusal files
+  pub names : NamesFirst OutsideFile files refusal
 
 -- main's frame exceeds its limit; the value is the number of its cells
 pub record HasLargeFrame (files : List (List ℕ)) (refusal : Refusal) : Type 0 where

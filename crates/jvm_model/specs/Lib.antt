@@ -3,6 +3,7 @@ pub mod Program
 pub mod Machine
 pub mod Body
 pub mod ProgramOf
+pub mod Reached
 pub mod NumberForm
 pub mod FrameCells
 pub mod Expansion

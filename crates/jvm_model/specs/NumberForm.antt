@@ -1,14 +1,15 @@
 -- The number form of main's code: whole numbers, jumps and switches alone. One height of the operand
 -- stack belongs to each pc, and it is 0 wherever a jump leaves or arrives.
-use Rattle.std.specs.Prelude.{◌≡◌, ℕ, ◌+◌, ◌-◌, ◌<◌, ◌≤◌, Bool, true, false, ◌&&◌, ◌||◌, ◌==◌, not, if◌then◌else◌, List, [], ◌∷◌, ◌++◌, map, Option, Some, None, IsTrue}
+use Rattle.std.specs.Prelude.{◌≡◌, ℕ, ◌+◌, ◌-◌, ◌<◌, ◌≤◌, Bool, true, false, ◌&&◌, ◌||◌, ◌==◌, not, if◌then◌else◌, List, [], ◌∷◌, map, Option, Some, None}
 use Rattle.std.specs.List.{AllByRecursion, flat_map, list_any}
 use Rattle.class_code.specs.declared.insn.StackForm.TheVariants as form
 use Rattle.class_file.specs.declared.record.ClassFile.{ClassFile}
 use Rattle.class_file.specs.declared.record.CodeAttr.{CodeAttr}
 use Rattle.class_file.specs.declared.record.Member.{Member}
 use Rattle.jvm_model.specs.State.{Whole}
-use Rattle.jvm_model.specs.Program.{WriteByte, PrintNumber, ReadByte, OfLibrary, Family, Nop, Const, Load, Store, Inc, Stack, Bin, Negate, Convert, If, IfCmp, Goto, Switch, CallStatic, Return}
+use Rattle.jvm_model.specs.Program.{WriteByte, PrintNumber, ReadByte, OfLibrary, Family, Const, Load, Store, Inc, Stack, Bin, Negate, Convert, If, IfCmp, Goto, Switch, CallStatic, Return}
 use Rattle.jvm_model.specs.Body.{Body}
+use Rattle.jvm_model.specs.Reached.{Way, Ways, IsReached}
 use Rattle.jvm_model.specs.ProgramOf.{body_of}
 
 -- ---- what a family does
@@ -89,19 +90,13 @@ all_targets body = flat_map (λ x. targets x.1) body
 
 -- ---- which instructions are reached
 
--- the pcs to which an instruction leads, where these instructions stand behind it
-abbrev pub successors : Family → Body → List ℕ
-successors family [] = targets family
-successors family (x ∷ behind) = if is_final family then targets family else x.0 ∷ targets family
+-- where a family leads
+abbrev pub family_way : Family → Way
+family_way family = record { goes_on = not (is_final family); targets = targets family }
 
--- A set of pcs, as a test, is closed where it has, with a pc, all pcs to which its instruction leads.
-abbrev pub IsClosed : (ℕ → Bool) → Body → Type 0
-IsClosed holds [] = Unit {0}
-IsClosed holds ((pc, family) ∷ body) = (holds pc ≡ true → AllByRecursion (λ to. holds to ≡ true) (successors family body)) × IsClosed holds body
-
--- the pc is reached from 0: each closed set that has 0 has it
-abbrev pub IsReached : Body → ℕ → Type 0
-IsReached body pc = (holds : ℕ → Bool) → holds 0 ≡ true → IsClosed holds body → holds pc ≡ true
+-- the ways of a body
+abbrev pub body_ways : Body → Ways
+body_ways body = map (λ x. (x.0, family_way x.1)) body
 
 -- the last instruction does not go on behind itself
 abbrev pub EndsThere : Body → Type 0
@@ -150,7 +145,7 @@ IsBelow most (Some number) = number < most
 -- code with this body has the number form
 pub record HasNumberForm (code : CodeAttr) (body : Body) : Type 0 where
   pub families : AllByRecursion (λ x. is_of_form x.1 ≡ true) body
-  pub reached : AllByRecursion (λ x. IsReached body x.0) body
+  pub reached : AllByRecursion (λ x. IsReached (body_ways body) x.0) body
   pub ends : EndsThere body
   pub balanced : IsBalanced code.max_stack (all_targets body) 0 body
   pub written : AreWritten (all_targets body) true [] body

@@ -25,8 +25,8 @@ pub enum Cause {
     /// No instruction stands at the pc, or its target, or a bound or the handler of the handler that
     /// starts there, is no start of an instruction.
     BadCode,
-    /// The set is of no form that is built; the place is that of the first instruction outside the form,
-    /// if there is one.
+    /// The set is of no form that is built; the place is that of the first instruction that is reached and
+    /// outside the form, if there is one.
     Unbuilt,
     /// A method's frame exceeds 32,767 cells; the value is their number.
     FrameTooLarge,

@@ -3,7 +3,7 @@
 use super::*;
 
 /// Codes of a main that is refused, with 8 for max_stack and max_locals, and what is noted.
-const OTHER: [(&str, &[u8], &[u8]); 41] = [
+const OTHER: [(&str, &[u8], &[u8]); 43] = [
     (
         "a local that was not stored",
         b"\x1a\x57\xb1",
@@ -119,6 +119,16 @@ const OTHER: [(&str, &[u8], &[u8]); 41] = [
     ("no code", b"", b"refused badshape 0 0 0 0\n"),
     ("dup", b"\x03\x59\x57\x57\xb1", b"refused unbuilt 0 0 1 0\n"),
     ("a null", b"\x01\x57\xb1", b"refused unbuilt 0 0 0 0\n"),
+    (
+        "a null that is not reached",
+        b"\xb1\x01\x57\xb1",
+        b"refused unbuilt 0 0 0 0\n",
+    ),
+    (
+        "a null that is not reached, and a dup that is",
+        b"\xa7\x00\x04\x01\x03\x59\x57\x57\xb1",
+        b"refused unbuilt 0 0 5 0\n",
+    ),
     (
         "a reference local",
         b"\x01\x4b\xb1",

@@ -1,18 +1,20 @@
-use Rattle.std.proofs.Common.{◌≡◌, ◌⊎◌, inl, inr, ℕ, drop, Some, sym, ◌∙◌}
-use Rattle.jvm_model.specs.Accepted.{outside_class}
-use Rattle.infuse_link.proofs.Scans.{scan_more, scan_here, scan_end}
+use Rattle.std.proofs.Common.{inl, inr, Some, None}
+use Rattle.jvm_model.specs.Accepted.{OutsideClass}
+use Rattle.infuse_link.proofs.OutsideFirsts.{found_more, found_here, found_none}
 use Rattle.infuse_link.proofs.outside.test_classes.Goals as goal
 
 pub returns-in-Err-clause-refused : goal.returns-in-Err-clause-refused
 returns-in-Err-clause-refused c =
     elim c.in-Err.ensures.refused [
       | inl memory ↦ inl memory
-      | inr e ↦ inr (sym c.loop-place.invariant ∙ scan_here outside_class c.args.classes.now c.loop-place.place c.index-classes-place.result c.in-Err.why c.loop-place-test.true c.index-classes-place.is e)
+      | inr has ↦
+          inr (c.loop-place.invariant (Some c.in-Err.why)
+          (found_here OutsideClass c.args.classes.now c.loop-place.place c.index-classes-place.result c.in-Err.why c.loop-place-test.true c.index-classes-place.is has))
     ]
 
 pub loop-place-preserved : goal.loop-place-preserved
-loop-place-preserved c =
-    scan_more outside_class c.args.classes.now c.loop-place.place c.index-classes-place.result c.loop-place-test.true c.index-classes-place.is c.in-Ok.ensures.inside ∙ c.loop-place.invariant
+loop-place-preserved c = λ found first.
+    c.loop-place.invariant found (found_more OutsideClass c.args.classes.now c.loop-place.place c.index-classes-place.result c.loop-place-test.true c.index-classes-place.is c.in-Ok.ensures.inside found first)
 
 pub returns-clause-inside : goal.returns-clause-inside
-returns-clause-inside c = sym c.loop-place.invariant ∙ scan_end outside_class c.args.classes.now c.loop-place.place c.loop-place-test.false
+returns-clause-inside c = c.loop-place.invariant None (found_none OutsideClass c.args.classes.now c.loop-place.place c.loop-place-test.false)

@@ -1,8 +1,8 @@
-use Rattle.std.proofs.Common.{◌≡◌, drop}
-use Rattle.jvm_model.specs.Phases.{first_refusal}
-use Rattle.jvm_model.specs.Accepted.{outside_class}
+use Rattle.std.proofs.Common.{Option, drop}
+use Rattle.jvm_model.specs.declared.refusal.Refusal.{Refusal}
+use Rattle.jvm_model.specs.Accepted.{FirstOf, OutsideClass}
 use Rattle.infuse_link.proofs.outside.test_classes.Given as goal
 
--- the classes that are left decide
+-- what is found in the classes that are left is found in all
 abbrev pub invariant-loop-place : goal.invariant-loop-place
-invariant-loop-place l = first_refusal outside_class l.place (drop l.place l.classes) ≡ first_refusal outside_class 0 l.classes
+invariant-loop-place l = (found : Option Refusal) → FirstOf OutsideClass l.place (drop l.place l.classes) found → FirstOf OutsideClass 0 l.classes found

@@ -1,0 +1,67 @@
+-- The first instruction outside the form is one.
+use Rattle.std.proofs.Common.{◌≡◌, inl, inr, ℕ, suc, List, [], ◌∷◌, Option, Some, None, refl, sym, ap, ◌∙◌}
+use Rattle.std.proofs.lemmas.Bool.{false≢true}
+use Rattle.std.proofs.lemmas.Option.{none-some, same_Some}
+use Rattle.class_pool.specs.Pool.{Places}
+use Rattle.class_file.specs.declared.record.ClassFile.{ClassFile}
+use Rattle.class_file.specs.declared.record.CodeAttr.{CodeAttr}
+use Rattle.class_file.specs.declared.record.HandlerRow.{HandlerRow}
+use Rattle.class_file.specs.declared.record.Member.{Member}
+use Rattle.class_file.specs.ReadingClass.{class_of}
+use Rattle.class_code.specs.declared.insn.Insn.{Insn}
+use Rattle.class_code.specs.Code.{Insns, decoded}
+use Rattle.jvm_model.specs.declared.refusal.Refusal.{Refusal}
+use Rattle.jvm_model.specs.ProgramOf.{insns_in}
+use Rattle.jvm_model.specs.Reached.{Ways, code_ways}
+use Rattle.jvm_model.specs.Phases.{record_in}
+use Rattle.jvm_model.specs.Accepted.{FirstOf, IfThere, NamesFirst, OutsideInsn, OutsideInsns, OutsideCode, OutsideMethod, OutsideClass, OutsideFile}
+
+-- two refusals, or none, of the same are one
+abbrev pub IsOne : (Option Refusal → Type 0) → Type 0
+IsOne Has = (a b : Option Refusal) → Has a → Has b → a ≡ b
+
+one_insn : (file member : ℕ) (pool : Places) (ways : Ways) (place : ℕ) (x : ℕ × Insn) → IsOne (OutsideInsn file member pool ways place x)
+one_insn file member pool ways place x None None p q = refl
+one_insn file member pool ways place x None (Some b) p q = absurd (false≢true (sym q.1 ∙ p q.0))
+one_insn file member pool ways place x (Some a) None p q = absurd (false≢true (sym p.1 ∙ q p.0))
+one_insn file member pool ways place x (Some a) (Some b) p q = ap (λ (why : Refusal). Some why) (p.2 ∙ sym q.2)
+
+module _ {X : Type 0} (Has : ℕ → X → Option Refusal → Type 0) (one : (place : ℕ) (x : X) → IsOne (Has place x)) where
+  one_first : (place : ℕ) (xs : List X) → IsOne (FirstOf Has place xs)
+  one_first place [] None None p q = refl
+  one_first place [] None (Some b) p q = absurd q
+  one_first place [] (Some a) b p q = absurd p
+  one_first place (x ∷ xs) None None p q = refl
+  one_first place (x ∷ xs) None (Some b) p (inl q) = one place x None (Some b) p.0 q
+  one_first place (x ∷ xs) None (Some b) p (inr q) = one_first (suc place) xs None (Some b) p.1 q.1
+  one_first place (x ∷ xs) (Some a) None (inl p) q = one place x (Some a) None p q.0
+  one_first place (x ∷ xs) (Some a) None (inr p) q = one_first (suc place) xs (Some a) None p.1 q.1
+  one_first place (x ∷ xs) (Some a) (Some b) (inl p) (inl q) = one place x (Some a) (Some b) p q
+  one_first place (x ∷ xs) (Some a) (Some b) (inl p) (inr q) = absurd (none-some a (sym (one place x (Some a) None p q.0)))
+  one_first place (x ∷ xs) (Some a) (Some b) (inr p) (inl q) = absurd (none-some b (one place x None (Some b) p.0 q))
+  one_first place (x ∷ xs) (Some a) (Some b) (inr p) (inr q) = one_first (suc place) xs (Some a) (Some b) p.1 q.1
+
+  pub one_named : (xs : List X) (a b : Refusal) → NamesFirst Has xs a → NamesFirst Has xs b → a ≡ b
+  one_named xs a b (inl p) (inl q) = same_Some a b (one_first 0 xs (Some a) (Some b) p q)
+  one_named xs a b (inl p) (inr q) = absurd (none-some a (sym (one_first 0 xs (Some a) None p q.0)))
+  one_named xs a b (inr p) (inl q) = absurd (none-some b (one_first 0 xs None (Some b) p.0 q))
+  one_named xs a b (inr p) (inr q) = p.1 ∙ sym q.1
+
+one_there : {X : Type 0} (Has : X → Option Refusal → Type 0) → ((x : X) → IsOne (Has x)) → (o : Option X) → IsOne (IfThere Has o)
+one_there Has one None a b p q = p ∙ sym q
+one_there Has one (Some x) a b p q = one x a b p q
+
+one_insns : (file member : ℕ) (pool : Places) (rows : List HandlerRow) (insns : Insns) → IsOne (OutsideInsns file member pool rows insns)
+one_insns file member pool rows insns = one_first (OutsideInsn file member pool (code_ways rows insns)) (one_insn file member pool (code_ways rows insns)) 0 insns
+
+one_code : (file member : ℕ) (pool : Places) (code : CodeAttr) → IsOne (OutsideCode file member pool code)
+one_code file member pool code = one_there (OutsideInsns file member pool code.handlers) (one_insns file member pool code.handlers) (insns_in (decoded code.code))
+
+one_method : (file : ℕ) (pool : Places) (member : ℕ) (m : Member) → IsOne (OutsideMethod file pool member m)
+one_method file pool member m = one_there (OutsideCode file member pool) (one_code file member pool) m.code
+
+one_class : (file : ℕ) (class : ClassFile) → IsOne (OutsideClass file class)
+one_class file class = one_first (OutsideMethod file class.pool) (one_method file class.pool) 0 class.methods
+
+pub outside_file_one : (file : ℕ) (bytes : List ℕ) → IsOne (OutsideFile file bytes)
+outside_file_one file bytes = one_there (OutsideClass file) (one_class file) (record_in (class_of bytes))
