@@ -1,10 +1,10 @@
 -- The image that is made is that of the class.
-use Rattle.std.proofs.Common.{inl, inr, ◌⊎◌, ◌≡◌, ◌≢◌, ℕ, zero, suc, ◌+◌, ◌*◌, ◌<◌, ◌≤◌, Bool, true, false, cond, ◌||◌, eqb, List, [], ◌∷◌, ◌++◌, length, get_or, Option, Some, None, refl, sym, ap, ◌∙◌, subst, arith, length-append, add-one}
+use Rattle.std.proofs.Common.{inl, inr, ◌≡◌, ℕ, zero, suc, ◌+◌, ◌*◌, ◌<◌, ◌≤◌, false, ◌||◌, List, [], ◌∷◌, length, get_or, Option, Some, None, refl, sym, ap, ◌∙◌, subst, arith, length-append}
 use Rattle.std.specs.Prelude.{if◌then◌else◌, option_and_then, Result, Ok, Err, IfOk}
 use Rattle.std.specs.List.{AllByRecursion, Contains}
 use Rattle.std.proofs.lemmas.List.{get_or_past}
-use Rattle.std.proofs.lemmas.Bool.{cases_lt, false≢true}
-use Rattle.std.proofs.lemmas.Bool.Decides.{Decides-eqb, nat_tests}
+use Rattle.std.proofs.lemmas.Bool.{cases_lt}
+use Rattle.std.proofs.lemmas.Bool.Decides.{nat_tests}
 use Rattle.class_file.specs.declared.record.ClassFile.{ClassFile}
 use Rattle.class_file.specs.declared.record.CodeAttr.{CodeAttr}
 use Rattle.class_file.specs.declared.record.Member.{Member}
@@ -16,7 +16,7 @@ use Rattle.jvm_model.specs.Body.{Body, families_of}
 use Rattle.jvm_model.specs.ProgramOf.{body_of, insns_in}
 use Rattle.jvm_model.specs.NumberForm.{HasNumberForm, HasNumberMain, IsBelow, writes}
 use Rattle.jvm_model.specs.FrameCells.{is_number, is_written, cells_below, slot_of, number_cells, greatest_height, body_cells, frame_cells}
-use Rattle.jvm_model.specs.Expansion.{family_bytes, body_bytes, size_of, offset_of, expanded}
+use Rattle.jvm_model.specs.Expansion.{family_bytes, body_bytes, size_of, offset_of}
 use Rattle.jvm_model.specs.ImageOf.{code_for, image_of, object_id, name_of_class}
 use Rattle.jvm_model.specs.Accepted.{IsAccepted}
 use Rattle.infuse_link.specs.declared.locals.Slots.{Slots}

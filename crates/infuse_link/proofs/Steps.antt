@@ -1,5 +1,5 @@
 -- The tests on a body, step by step.
-use Rattle.std.proofs.Common.{◌≡◌, ℕ, ◌+◌, ◌-◌, ◌≤◌, max, eqb, leb, Bool, true, false, cond, not, ◌&&◌, ◌||◌, List, [], ◌∷◌, ◌++◌, Option, Some, None, option_map, refl, sym, ap, ◌∙◌, arith, append_assoc}
+use Rattle.std.proofs.Common.{◌≡◌, ℕ, ◌≤◌, max, eqb, leb, Bool, true, false, cond, not, ◌||◌, [], ◌∷◌, ◌++◌, Option, Some, None, refl, sym, ap, ◌∙◌, arith, append_assoc}
 use Rattle.std.proofs.lemmas.Bool.Decides.{nat_tests}
 use Rattle.std.proofs.lemmas.List.{append-nil}
 use Rattle.std.specs.Prelude.{option_and_then}
@@ -10,7 +10,7 @@ use Rattle.jvm_model.specs.Program.{Family}
 use Rattle.jvm_model.specs.Body.{Body, family_of}
 use Rattle.jvm_model.specs.NumberForm.{pops, height_behind}
 use Rattle.infuse_link.specs.NumberInsns.{number_body, unless_other, with_front}
-use Rattle.infuse_link.specs.Tests.{fits, heights, locals_fit, locals_below}
+use Rattle.infuse_link.specs.Tests.{fits, heights}
 use Rattle.infuse_link.proofs.Loops.{and_parts}
 
 module _ (most : ℕ) (arrives : ℕ → Bool) (height greatest : ℕ) (x : ℕ × Family) (body : Body) where

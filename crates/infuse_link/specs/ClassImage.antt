@@ -15,7 +15,6 @@ use Rattle.jvm_model.specs.ImageOf.{code_for, image_of}
 use Rattle.jvm_model.specs.Accepted.{IsRefused, most_frame_cells, most_code_bytes}
 use Rattle.infuse_link.specs.declared.stop.Stop.{Stop}
 use Rattle.infuse_link.specs.declared.stop.Stop.TheVariants.{Unbuilt, FrameTooLarge, CodeTooLong, Memory}
-use Rattle.infuse_link.specs.Infused.{IsInfused}
 
 -- some bytes are a class file of one main with this record
 pub record IsFile (file : ClassFile) : Type 0 where

@@ -1,5 +1,5 @@
 -- The places of a body's machine instructions.
-use Rattle.std.specs.Prelude.{ℕ, ◌+◌, List, [], ◌∷◌, get_or}
+use Rattle.std.specs.Prelude.{ℕ, ◌+◌, [], ◌∷◌, get_or}
 use Rattle.std.specs.List.{AllByRecursion}
 use Rattle.image_instr.specs.Insn.{IsInsn}
 use Rattle.jvm_model.specs.Program.{Family}

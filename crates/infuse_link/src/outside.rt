@@ -54,7 +54,7 @@ fn no_memory() -> Refusal
     }
 }
 
-/// Tests that each of these instructions that is reached is of the form.
+/// Tests that each reached one of these instructions is of the form.
 fn test_insns(
     alloc: Global,
     file: usize,
@@ -76,7 +76,7 @@ fn test_insns(
     }
 }
 
-/// Tests that each instruction of some code that is reached is of the form.
+/// Tests that each reached instruction of some code is of the form.
 fn test_code(
     alloc: Global,
     file: usize,
@@ -97,7 +97,7 @@ fn test_code(
     }
 }
 
-/// Tests that each instruction of a method that is reached is of the form.
+/// Tests that each reached instruction of a method is of the form.
 fn test_method(
     alloc: Global,
     file: usize,
@@ -114,7 +114,7 @@ fn test_method(
     }
 }
 
-/// Tests that each instruction of a class that is reached is of the form.
+/// Tests that each reached instruction of a class is of the form.
 fn test_class(alloc: Global, file: usize, class: &ClassFile) -> Result<(), Refusal>
     ensures inside { OnOk result (OutsideClass file class.now None) }
     ensures refused { IfErr result (λ why. (why.cause ≡ cause.Memory) ⊎ OutsideClass file class.now (Some why)) }
@@ -128,7 +128,7 @@ fn test_class(alloc: Global, file: usize, class: &ClassFile) -> Result<(), Refus
     Ok(())
 }
 
-/// Tests that each instruction of each class that is reached is of the form.
+/// Tests that each reached instruction of each class is of the form.
 fn test_classes(alloc: Global, classes: &[ClassFile]) -> Result<(), Refusal>
     ensures inside { OnOk result (FirstOf OutsideClass 0 classes.now None) }
     ensures refused { IfErr result (λ why. (why.cause ≡ cause.Memory) ⊎ FirstOf OutsideClass 0 classes.now (Some why)) }

@@ -1,5 +1,5 @@
 -- A set of one file of the number form has no early refusal.
-use Rattle.std.proofs.Common.{◌≡◌, ℕ, ◌≤◌, Bool, true, false, cond, List, [], ◌∷◌, length, Option, Some, None, option_map, option_and_then, Result, Ok, Err, refl, sym, ap, ◌∙◌, arith}
+use Rattle.std.proofs.Common.{◌≡◌, ℕ, ◌≤◌, false, cond, List, [], ◌∷◌, length, Option, Some, None, option_map, option_and_then, Result, Ok, Err, refl, sym, ap, ◌∙◌, arith}
 use Rattle.std.specs.Prelude.{nat_lt}
 use Rattle.std.specs.Option.{option_or}
 use Rattle.std.proofs.lemmas.Option.{none-some, same_Some}
@@ -9,16 +9,15 @@ use Rattle.class_file.specs.declared.record.ClassFile.{ClassFile}
 use Rattle.class_file.specs.declared.record.CodeAttr.{CodeAttr}
 use Rattle.class_file.specs.declared.record.HandlerRow.{HandlerRow}
 use Rattle.class_file.specs.declared.record.Member.{Member}
-use Rattle.class_file.specs.Relation.{IsClassFile}
 use Rattle.class_file.specs.ReadingClass.{class_of}
 use Rattle.class_file.proofs.Whole.{file_again}
 use Rattle.class_code.specs.declared.refusal.CodeRefusal.{CodeRefusal}
 use Rattle.class_code.specs.declared.refusal.CodeRefusal.TheVariants.{BadCode}
-use Rattle.class_code.specs.Code.{Insns, decoded, first_unfit, first_other, handler_fits}
+use Rattle.class_code.specs.Code.{Insns, decoded, first_unfit, first_other}
 use Rattle.jvm_model.specs.declared.refusal.Refusal.{Refusal}
 use Rattle.jvm_model.specs.Body.{Body, families_of}
 use Rattle.jvm_model.specs.ProgramOf.{insns_in, body_of}
-use Rattle.jvm_model.specs.Phases.{first_refusal, most_files, most_bytes, total_bytes, too_many, size_refusal, unless_read, reading_refusal, record_in, unless_unfit, fault_in, fault_of, refusal_of_code, method_refusal, class_refusal, code_refusal, early_refusal}
+use Rattle.jvm_model.specs.Phases.{first_refusal, most_files, most_bytes, total_bytes, too_many, size_refusal, unless_read, reading_refusal, record_in, fault_in, fault_of, refusal_of_code, method_refusal, class_refusal, code_refusal, early_refusal}
 use Rattle.jvm_model.specs.Accepted.{IsNumberFile}
 
 -- ---- the size

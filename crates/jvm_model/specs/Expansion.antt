@@ -1,5 +1,5 @@
 -- The expansion of families to machine instructions. Each whole number has two cells.
-use Rattle.std.specs.Prelude.{◌≡◌, ℕ, ℤ, pos, negsuc, ◌+◌, Bool, ◌&&◌, nat_lt, if◌then◌else◌, List, [], ◌∷◌, length, map, Option, Some, None}
+use Rattle.std.specs.Prelude.{ℕ, ℤ, pos, negsuc, ◌+◌, Bool, ◌&&◌, nat_lt, if◌then◌else◌, List, [], ◌∷◌, length, map, None}
 use Rattle.std.specs.List.{flat_map}
 use Rattle.std.specs.Int.Signed.{le_z}
 use Rattle.cell_num.specs.declared.arithmetic.BinOp.{BinOp}

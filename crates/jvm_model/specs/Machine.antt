@@ -1,8 +1,8 @@
 -- The typed machine's step and run (JVMS 2.11, 6.5). One step is one instruction. A native call is a
 -- tick, and so is a taken jump to a target that is not after its instruction. A run stops before the tick
 -- that would exceed its budget.
-use Rattle.std.specs.Prelude.{◌≡◌, ℕ, ℤ, pos, negsuc, zero, suc, ◌+◌, ◌+ℤ◌, ◌%◌, neg_ℤ, nat_lt, nat_le, Bool, if◌then◌else◌, List, [], ◌∷◌, ◌++◌, Option, Some, None, option_and_then, unwrap_or, slice_get, slice_set, replicate, codes}
-use Rattle.std.specs.Int.{w32, cast_unsigned, int_wrap}
+use Rattle.std.specs.Prelude.{ℕ, ℤ, pos, ◌+◌, ◌+ℤ◌, neg_ℤ, nat_lt, nat_le, Bool, if◌then◌else◌, List, [], ◌∷◌, Option, Some, None, option_and_then, unwrap_or, slice_get, slice_set, replicate, codes}
+use Rattle.std.specs.Int.{w32, int_wrap}
 use Rattle.std.specs.Ordering.{int_eq}
 use Rattle.std.specs.Fmt.{signed_decimal}
 use Rattle.cell_num.specs.declared.arithmetic.BinOp.{BinOp}

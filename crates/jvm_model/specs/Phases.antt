@@ -1,10 +1,9 @@
 -- The first phases of the verdict, one behind the other: how large the set is, the reading of each file,
 -- and the code of each method. Each gives the first refusal in the order of files, methods and pcs, or
 -- none.
-use Rattle.std.specs.Prelude.{ℕ, suc, ◌&&◌, nat_lt, nat_le, if◌then◌else◌, List, [], ◌∷◌, length, map, Option, Some, None, option_map, option_and_then, Result, Ok, Err}
+use Rattle.std.specs.Prelude.{ℕ, suc, nat_lt, nat_le, if◌then◌else◌, List, [], ◌∷◌, length, map, Option, Some, None, option_map, option_and_then, Result, Ok, Err}
 use Rattle.std.specs.Option.{option_or}
 use Rattle.std.specs.List.{sum}
-use Rattle.class_pool.specs.Pool.{Places}
 use Rattle.class_file.specs.declared.record.ClassFile.{ClassFile}
 use Rattle.class_file.specs.declared.record.CodeAttr.{CodeAttr}
 use Rattle.class_file.specs.declared.record.Member.{Member}
@@ -13,8 +12,7 @@ use Rattle.class_file.specs.declared.refusal.ReadRefusal.TheVariants as read
 use Rattle.class_file.specs.ReadingClass.{class_of}
 use Rattle.class_code.specs.declared.refusal.CodeRefusal.{CodeRefusal}
 use Rattle.class_code.specs.declared.refusal.CodeRefusal.TheVariants as fault
-use Rattle.class_code.specs.declared.insn.Insn.{Insn}
-use Rattle.class_code.specs.Code.{Insns, decoded, first_unfit, first_other}
+use Rattle.class_code.specs.Code.{Insns, decoded, first_unfit}
 use Rattle.jvm_model.specs.declared.refusal.Cause.{Cause}
 use Rattle.jvm_model.specs.declared.refusal.Cause.TheVariants as cause
 use Rattle.jvm_model.specs.declared.refusal.Refusal.{Refusal}

@@ -1,5 +1,5 @@
 -- The program that a class file is.
-use Rattle.std.specs.Prelude.{ℕ, ◌==◌, if◌then◌else◌, List, [], ◌∷◌, length, Option, Some, None, option_and_then, slice_get, Result, Ok, Err}
+use Rattle.std.specs.Prelude.{ℕ, ◌==◌, if◌then◌else◌, List, [], length, Option, Some, None, option_and_then, slice_get, Result, Ok, Err}
 use Rattle.class_code.specs.declared.refusal.CodeRefusal.{CodeRefusal}
 use Rattle.class_code.specs.Code.{Insns, decoded}
 use Rattle.class_file.specs.declared.record.ClassFile.{ClassFile}

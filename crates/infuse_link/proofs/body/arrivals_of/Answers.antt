@@ -1,4 +1,4 @@
-use Rattle.std.proofs.Common.{ℕ, ◌+◌, Bool, ◌||◌, false, get_or, drop, sym, ap, ◌∙◌}
+use Rattle.std.proofs.Common.{◌+◌, Bool, ◌||◌, false, get_or, drop, sym, ap, ◌∙◌}
 use Rattle.jvm_model.specs.NumberForm.{is_in, all_targets}
 use Rattle.infuse_link.specs.NumberInsns.{NumberInsns, meant, body_meant}
 use Rattle.infuse_link.proofs.Loops.{nothing, stepped, ended}

@@ -1,4 +1,4 @@
-use Rattle.std.proofs.Common.{ℕ, ◌+◌, Bool, List, drop, sym, ap, ◌∙◌}
+use Rattle.std.proofs.Common.{◌+◌, Bool, drop, sym, ap, ◌∙◌}
 use Rattle.infuse_link.specs.NumberInsns.{NumberInsns, body_meant}
 use Rattle.infuse_link.specs.Tests.{ends_from}
 use Rattle.infuse_link.proofs.Loops.{nothing, stepped, ended}

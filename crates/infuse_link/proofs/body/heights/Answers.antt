@@ -1,6 +1,5 @@
-use Rattle.std.proofs.Common.{◌≡◌, ℕ, Bool, true, false, ◌+◌, ◌-◌, ◌≤◌, max, get_or, drop, sym, ap, ◌∙◌, arith}
-use Rattle.jvm_model.specs.Program.{Family}
-use Rattle.jvm_model.specs.NumberForm.{height_behind, pops, pushes}
+use Rattle.std.proofs.Common.{◌≡◌, ℕ, Bool, true, false, ◌+◌, ◌-◌, max, get_or, drop, sym, ap, ◌∙◌, arith}
+use Rattle.jvm_model.specs.NumberForm.{height_behind, pops}
 use Rattle.infuse_link.specs.NumberInsns.{NumberInsns, meant, body_meant}
 use Rattle.infuse_link.specs.Tests.{fits, heights}
 use Rattle.infuse_link.proofs.Loops.{nothing, stepped, ended}

@@ -1,4 +1,4 @@
-use Rattle.std.proofs.Common.{ℕ, ◌≡◌, ◌≤◌, false, get_or, drop}
+use Rattle.std.proofs.Common.{◌≡◌, ◌≤◌, false, get_or, drop}
 use Rattle.infuse_link.specs.NumberInsns.{body_meant}
 use Rattle.infuse_link.specs.Tests.{heights}
 use Rattle.infuse_link.proofs.body.heights.Given as goal

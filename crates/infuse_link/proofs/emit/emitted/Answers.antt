@@ -1,4 +1,4 @@
-use Rattle.std.proofs.Common.{◌≡◌, ◌+◌, ◌++◌, [], drop, get_or, List, ℕ, sym, ap, ◌∙◌, subst, append_assoc}
+use Rattle.std.proofs.Common.{◌+◌, ◌++◌, drop, get_or, List, ℕ, sym, ap, ◌∙◌, subst, append_assoc}
 use Rattle.std.specs.List.{AllByRecursion}
 use Rattle.std.proofs.lemmas.List.{append-nil}
 use Rattle.jvm_model.specs.Program.{Family}

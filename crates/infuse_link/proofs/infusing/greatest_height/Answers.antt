@@ -1,5 +1,5 @@
-use Rattle.std.proofs.Common.{◌≡◌, ℕ, Bool, List, true, false, [], get_or, Option, Some, None, sym, ap, ◌∙◌, refl, arith}
-use Rattle.jvm_model.specs.NumberForm.{is_in, all_targets}
+use Rattle.std.proofs.Common.{◌≡◌, ℕ, Bool, List, true, false, [], get_or, Some, None, sym, ap, ◌∙◌, arith}
+use Rattle.jvm_model.specs.NumberForm.{all_targets}
 use Rattle.std.proofs.lemmas.Bool.{false≢true}
 use Rattle.infuse_link.specs.NumberInsns.{body_meant}
 use Rattle.infuse_link.specs.Tests.{heights, are_written}

@@ -1,4 +1,4 @@
-use Rattle.std.proofs.Common.{◌≡◌, ℕ, ◌+◌, ◌*◌, ◌≤◌, ◌∷◌, [], length, refl, sym, ap, ◌∙◌, arith}
+use Rattle.std.proofs.Common.{◌≡◌, ◌+◌, ◌*◌, ◌∷◌, [], length, refl, ◌∙◌, arith}
 use Rattle.image_form.specs.declared.record.Image.{Image}
 use Rattle.image_form.specs.SmallForm.{small_class, small_method, small_image}
 use Rattle.jvm_model.specs.FrameCells.{frame_cells}

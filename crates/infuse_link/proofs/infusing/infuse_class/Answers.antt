@@ -1,11 +1,7 @@
-use Rattle.std.proofs.Common.{Vec, Global, ◌≡◌, ℕ, List, Some, sym, ap, ◌∙◌, subst}
+use Rattle.std.proofs.Common.{Vec, Global, ◌≡◌, ℕ, Some, sym, ap, ◌∙◌}
 use Rattle.std.specs.Prelude.{Ok}
-use Rattle.std.specs.List.{AllByRecursion}
-use Rattle.class_code.specs.Code.{Insns, decoded}
-use Rattle.jvm_model.specs.Program.{Family}
-use Rattle.jvm_model.specs.NumberForm.{is_of_form}
-use Rattle.infuse_link.specs.NumberInsns.{NumberInsns, body_meant, number_body, Finds}
-use Rattle.infuse_link.specs.ClassImage.{only_code}
+use Rattle.class_code.specs.Code.{decoded}
+use Rattle.infuse_link.specs.NumberInsns.{NumberInsns, body_meant, number_body}
 use Rattle.infuse_link.specs.declared.number_insn.NumberInsn.{NumberInsn}
 use Rattle.infuse_link.proofs.Images.{only_main, body_found, number_stops}
 use Rattle.infuse_link.proofs.NumberBodies.{form_found, rises_found}

@@ -1,5 +1,5 @@
-use Rattle.std.proofs.Common.{◌≡◌, ℕ, ◌+◌, Bool, true, false, not, ◌&&◌, ◌||◌, get_or, drop, List, Option, sym, ap, ◌∙◌}
-use Rattle.jvm_model.specs.NumberForm.{reads, writes, is_jump, is_in, with_one}
+use Rattle.std.proofs.Common.{◌≡◌, ℕ, ◌+◌, Bool, false, not, ◌&&◌, ◌||◌, get_or, drop, List, Option, sym, ap, ◌∙◌}
+use Rattle.jvm_model.specs.NumberForm.{reads, writes, is_jump, with_one}
 use Rattle.jvm_model.specs.FrameCells.{is_number}
 use Rattle.infuse_link.specs.NumberInsns.{NumberInsns, meant, body_meant}
 use Rattle.infuse_link.specs.Tests.{are_written, is_known, is_marked}

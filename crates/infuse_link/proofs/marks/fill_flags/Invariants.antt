@@ -1,4 +1,4 @@
-use Rattle.std.proofs.Common.{ℕ, ◌≡◌, ◌-◌, ◌≤◌, ◌++◌, false, length, replicate}
+use Rattle.std.proofs.Common.{◌≡◌, ◌-◌, ◌≤◌, ◌++◌, false, length, replicate}
 use Rattle.infuse_link.proofs.marks.fill_flags.Given as goal
 
 abbrev pub invariant-loop-flags : goal.invariant-loop-flags

@@ -1,4 +1,4 @@
-use Rattle.std.proofs.Common.{ℕ, ◌≡◌, ◌-◌, ◌≤◌, ◌++◌, false, length, replicate}
+use Rattle.std.proofs.Common.{◌≡◌, ◌-◌, ◌≤◌, ◌++◌, length, replicate}
 use Rattle.infuse_link.proofs.marks.fill_indexes.Given as goal
 
 abbrev pub invariant-loop-indexes : goal.invariant-loop-indexes

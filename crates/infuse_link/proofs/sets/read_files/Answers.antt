@@ -1,8 +1,7 @@
-use Rattle.std.proofs.Common.{Vec, Global, ◌≡◌, ◌⊎◌, inl, inr, ℕ, suc, ◌+◌, ◌<◌, length, List, [], ◌∷◌, ◌++◌, take, drop, map, get_or, Some, sym, ap, ◌∙◌, subst, add-one}
+use Rattle.std.proofs.Common.{Vec, Global, ◌≡◌, inl, inr, ℕ, ◌+◌, ◌<◌, length, List, [], ◌∷◌, ◌++◌, take, map, get_or, sym, ap, ◌∙◌, subst, add-one}
 use Rattle.std.proofs.Math.Seq.{take-suc}
-use Rattle.class_file.specs.declared.record.ClassFile.{ClassFile}
 use Rattle.class_file.specs.Relation.{IsClassFile}
-use Rattle.jvm_model.specs.Phases.{first_refusal, reading_refusal}
+use Rattle.jvm_model.specs.Phases.{reading_refusal}
 use Rattle.infuse_link.specs.Sets.{AreRead}
 use Rattle.infuse_link.proofs.Scans.{scan_more, scan_here, seen_at, seen_within}
 use Rattle.infuse_link.proofs.ReadSets.{one_more, read_passes}

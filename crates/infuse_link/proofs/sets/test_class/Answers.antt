@@ -1,4 +1,4 @@
-use Rattle.std.proofs.Common.{◌≡◌, ◌⊎◌, inl, inr, ℕ, ◌+◌, List, drop, Some, sym, ap, ◌∙◌}
+use Rattle.std.proofs.Common.{inl, inr, ◌+◌, List, drop, sym, ap, ◌∙◌}
 use Rattle.class_file.specs.declared.record.Member.{Member}
 use Rattle.jvm_model.specs.Phases.{first_refusal, method_refusal}
 use Rattle.infuse_link.proofs.Scans.{scan_more, scan_here, scan_end}

@@ -1,4 +1,4 @@
-use Rattle.std.proofs.Common.{◌≡◌, ◌⊎◌, inl, inr, ℕ, drop, Some, sym, ◌∙◌}
+use Rattle.std.proofs.Common.{inl, inr, sym, ◌∙◌}
 use Rattle.jvm_model.specs.Phases.{class_refusal}
 use Rattle.infuse_link.proofs.Scans.{scan_more, scan_here, scan_end}
 use Rattle.infuse_link.proofs.sets.test_classes.Goals as goal
