@@ -15,8 +15,8 @@ use Rattle.class_code.specs.declared.insn.SwitchRow.{SwitchRow}
 use Rattle.class_code.specs.declared.insn.Insn.{Insn}
 use Rattle.class_code.specs.declared.insn.Insn.TheVariants.{Push, Inc, Switch}
 use Rattle.class_code.specs.Operands.{◌>>=◌, u1_at, u2_at, u4_at, i1_at, i2_at, i4_at, target_at, far_target_at}
-use Rattle.class_code.specs.Table.{Front, is_within, constant, load, array_load, store, array_store, operation, binary, increment, math, conversion, jump, branch, is_above, padding_at, table_rows, span, tableswitch, lookup_row, lookup_rows, lookupswitch, control, call_interface, member_insn, member, array_kind, new_array, class_insn, object, wide_increment, widened, wide, multi_array, goto_w, extended, by_opcode, insn_at}
-use Rattle.class_code.specs.Code.{Insns, StandIn}
+use Rattle.class_code.specs.Table.{Prefix, is_within, constant, load, array_load, store, array_store, operation, binary, increment, math, conversion, jump, branch, is_above, padding_at, table_rows, span, tableswitch, lookup_row, lookup_rows, lookupswitch, control, call_interface, member_insn, member, array_kind, new_array, class_insn, object, wide_increment, widened, wide, multi_array, goto_w, extended, by_opcode, insn_at}
+use Rattle.class_code.specs.Code.{Insns, AreIn}
 
 -- ---- what a switch keeps
 
@@ -29,7 +29,7 @@ abbrev pub Rising : Option ℤ → List SwitchRow → Type 0
 Rising before [] = Unit {0}
 Rising before (row ∷ rows) = IsAbove before row.key × Rising (Some row.key) rows
 
--- the keys are the low one and those behind it, one by one
+-- the keys are the low one and those after it, one by one
 abbrev pub Following : ℤ → List SwitchRow → Type 0
 Following low [] = Unit {0}
 Following low (row ∷ rows) = (row.key ≡ low) × Following (low +ℤ pos 1) rows
@@ -70,8 +70,8 @@ abbrev Sure : {A : Type 0} → (A → Type 0) → Result (A × List ℕ) Fault �
 Sure P (Ok x) = P x.0
 Sure P (Err e) = Unit {0}
 
-abbrev Fine : Front → Type 0
-Fine front = Sure HasNumbers front
+abbrev Fine : Prefix → Type 0
+Fine prefix = Sure HasNumbers prefix
 
 sure-then : {A B : Type 0} (P : A → Type 0) (Q : B → Type 0) (read : Result (A × List ℕ) Fault) (f : A × List ℕ → Result (B × List ℕ) Fault) → Sure P read → ((x : A × List ℕ) → P x.0 → Sure Q (f x)) → Sure Q (read >>= f)
 sure-then P Q (Ok x) f h k = k x h
@@ -89,7 +89,7 @@ sure-if : {A : Type 0} (P : A → Type 0) (b : Bool) (x y : Result (A × List �
 sure-if P true x y h k = h refl
 sure-if P false x y h k = k refl
 
-fine-if : (b : Bool) (x y : Front) → Fine x → Fine y → Fine (cond b x y)
+fine-if : (b : Bool) (x y : Prefix) → Fine x → Fine y → Fine (cond b x y)
 fine-if true x y h k = h
 fine-if false x y h k = k
 
@@ -260,7 +260,7 @@ fine-tableswitch pc bytes =
     sure-then (IsSwitch switch.Table) HasNumbers (cond (lt_z high.0 low.0) (Err BadCode) (table_rows pc low.0 0 (span low.0 high.0) high.1)) _
     (sure-if (IsSwitch switch.Table) (lt_z high.0 low.0) (Err BadCode) (table_rows pc low.0 0 (span low.0 high.0) high.1) (λ less. tt) (fine-spanned pc low.0 high.0 high.1 low_fits high_fits)) (λ x is. is)))))
 
--- the keys of rows behind one
+-- the keys of rows after one
 pub record Rises (before : Option ℤ) (rows : List SwitchRow) : Type 0 where
   pub keys : AllByRecursion FitsKey rows
   pub rise : Rising before rows
@@ -380,8 +380,8 @@ fine-insn_at pc [] = tt
 fine-insn_at pc (opcode ∷ bytes) = fine-by_opcode pc opcode bytes
 
 -- the numbers of instructions that stand in code keep to their types
-pub stand-numbers : (pc : ℕ) (bytes : List ℕ) (insns : Insns) (next : ℕ) (left : List ℕ) → StandIn pc bytes insns next left → AllByRecursion (λ x. HasNumbers x.1) insns
-stand-numbers pc bytes [] next left stand = tt
-stand-numbers pc bytes ((at, insn) ∷ insns) next left stand =
-    let here : HasNumbers insn = subst (λ (front : Front). Fine front) stand.2 (fine-insn_at pc bytes) in
-    (here, stand-numbers (pc + (length bytes - length stand.1)) stand.1 insns next left stand.3)
+pub hold-numbers : (pc : ℕ) (bytes : List ℕ) (insns : Insns) (next : ℕ) (left : List ℕ) → AreIn pc bytes insns next left → AllByRecursion (λ x. HasNumbers x.1) insns
+hold-numbers pc bytes [] next left stand = tt
+hold-numbers pc bytes ((at, insn) ∷ insns) next left stand =
+    let here : HasNumbers insn = subst (λ (prefix : Prefix). Fine prefix) stand.2 (fine-insn_at pc bytes) in
+    (here, hold-numbers (pc + (length bytes - length stand.1)) stand.1 insns next left stand.3)

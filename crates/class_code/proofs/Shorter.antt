@@ -1,4 +1,4 @@
--- An instruction has at least one byte: what is behind it is shorter.
+-- An instruction has at least one byte: what is after it is shorter.
 use Rattle.std.proofs.Common.{◌≡◌, ℕ, ℤ, zero, suc, pos, ◌+◌, ◌≤◌, ◌<◌, Bool, true, false, cond, List, [], ◌∷◌, length, drop, take, Option, Some, None, Result, Ok, Err, subst, arith, length-drop}
 use Rattle.std.specs.Prelude.{◌==◌, ◌||◌, nat_le}
 use Rattle.std.specs.Int.{w64, cast_unsigned}
@@ -9,7 +9,7 @@ use Rattle.class_code.specs.declared.refusal.Fault.{Fault}
 use Rattle.class_code.specs.declared.refusal.Fault.TheVariants.{Unsupported, BadCode}
 use Rattle.class_code.specs.declared.insn.Insn.{Insn}
 use Rattle.class_code.specs.Operands.{◌>>=◌, u1_at, u2_at, u4_at, i1_at, i2_at, i4_at, slice_at, target_at, far_target_at}
-use Rattle.class_code.specs.Table.{Front, is_within, with_u1, with_u2, constant, load, array_load, store, array_store, operation, binary, increment, math, conversion, branch, are_zero, padding_at, table_rows, span, tableswitch, lookup_row, lookup_rows, lookupswitch, control, call_interface, member, array_kind, new_array, object, wide_increment, widened, wide, multi_array, goto_w, extended, by_opcode, insn_at}
+use Rattle.class_code.specs.Table.{Prefix, is_within, with_u1, with_u2, constant, load, array_load, store, array_store, operation, binary, increment, math, conversion, branch, are_zero, padding_at, table_rows, span, tableswitch, lookup_row, lookup_rows, lookupswitch, control, call_interface, member, array_kind, new_array, object, wide_increment, widened, wide, multi_array, goto_w, extended, by_opcode, insn_at}
 
 -- what is left has at most so many bytes
 abbrev Short : {A : Type 0} → ℕ → Result (A × List ℕ) Fault → Type 0
@@ -37,7 +37,7 @@ short-any most (Ok x) f k = k x
 short-any most (Err e) f k = tt
 
 -- one of two instructions
-if-insn : (most : ℕ) (b : Bool) (x y : Front) → Short most x → Short most y → Short most (cond b x y)
+if-insn : (most : ℕ) (b : Bool) (x y : Prefix) → Short most x → Short most y → Short most (cond b x y)
 if-insn most true x y h k = h
 if-insn most false x y h k = k
 
@@ -263,9 +263,9 @@ short-by_opcode most pc opcode bytes h =
     (short-extended most pc opcode bytes h))))))))))))
 
 -- an instruction has at least one byte
-pub insn_at-shorter : (pc : ℕ) (bytes : List ℕ) (insn : Insn) (behind : List ℕ) → insn_at pc bytes ≡ Ok (insn, behind) → length behind < length bytes
+pub insn_at-shorter : (pc : ℕ) (bytes : List ℕ) (insn : Insn) (suffix : List ℕ) → insn_at pc bytes ≡ Ok (insn, suffix) → length suffix < length bytes
 unfolding insn_at
-insn_at-shorter pc [] insn behind e = absurd cc
-insn_at-shorter pc (opcode ∷ operands) insn behind e =
-    let le : length behind ≤ length operands = subst (λ (front : Front). Short (length operands) front) e (short-by_opcode (length operands) pc opcode operands (omega arith)) in
+insn_at-shorter pc [] insn suffix e = absurd cc
+insn_at-shorter pc (opcode ∷ operands) insn suffix e =
+    let le : length suffix ≤ length operands = subst (λ (prefix : Prefix). Short (length operands) prefix) e (short-by_opcode (length operands) pc opcode operands (omega arith)) in
     omega arith

@@ -112,9 +112,9 @@ start-passes ((at, insn) ∷ insns) pc (suc k) lt e = ap (λ b. eqb at pc || b) 
 pub is_start-tells : (insns : Insns) (pc : ℕ) → Tells (is_start insns pc) (IsStart insns pc)
 is_start-tells insns pc = record { holds = start-found insns pc; passes = λ start. start-passes insns pc start.0 start.1 start.2 }
 
-tells-all : (insns : Insns) (places : List ℕ) → Tells (list_all (is_start insns) places) (AllByRecursion (IsStart insns) places)
+tells-all : (insns : Insns) (destinations : List ℕ) → Tells (list_all (is_start insns) destinations) (AllByRecursion (IsStart insns) destinations)
 tells-all insns [] = record { holds = λ e. tt; passes = λ all. refl }
-tells-all insns (pc ∷ places) = tells-and (is_start insns pc) (list_all (is_start insns) places) (IsStart insns pc) (AllByRecursion (IsStart insns) places) (is_start-tells insns pc) (tells-all insns places)
+tells-all insns (pc ∷ destinations) = tells-and (is_start insns pc) (list_all (is_start insns) destinations) (IsStart insns pc) (AllByRecursion (IsStart insns) destinations) (is_start-tells insns pc) (tells-all insns destinations)
 
 pub jumps-tell : (insns : Insns) (x : ℕ × Insn) → Tells (jumps_to_starts insns x.1) (JumpsToStarts insns x)
 jumps-tell insns x = tells-all insns (targets x.1)

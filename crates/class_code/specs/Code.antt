@@ -1,4 +1,4 @@
--- Code as a list of instructions, each with its pc (JVMS 4.9.1): one stands behind the other from the
+-- Code as a list of instructions, each with its pc (JVMS 4.9.1): one follows the other from the
 -- first byte to the last, and each target is the start of one of them.
 use Rattle.std.specs.Prelude.{◌≡◌, ℕ, zero, suc, ◌+◌, ◌-◌, ◌<◌, ◌≤◌, Bool, ◌&&◌, ◌||◌, ◌==◌, if◌then◌else◌, List, [], ◌∷◌, ◌++◌, length, map, Option, Some, None, option_map, Result, Ok, Err, ◌⊎◌}
 use Rattle.std.specs.List.{AllByRecursion, Contains, list_any, list_all}
@@ -9,36 +9,36 @@ use Rattle.class_code.specs.declared.refusal.CodeRefusal.{CodeRefusal}
 use Rattle.class_code.specs.declared.refusal.CodeRefusal.TheVariants.{Unsupported, BadCode, Memory}
 use Rattle.class_code.specs.declared.insn.Insn.{Insn}
 use Rattle.class_code.specs.declared.insn.Insn.TheVariants.{If, IfCmp, IfRef, Goto, Switch}
-use Rattle.class_code.specs.Table.{Front, insn_at}
+use Rattle.class_code.specs.Table.{Prefix, insn_at}
 
 -- pcs with the instructions that stand there
 abbrev pub Insns : Type 0
 Insns = List (ℕ × Insn)
 
--- ---- one behind the other
+-- ---- one after the other
 
--- The instructions stand one behind the other in the bytes, which begin at pc. Behind them the bytes
+-- The instructions stand one after the other in the bytes, which begin at pc. Behind them the bytes
 -- `left` begin, at `next`.
-abbrev pub StandIn : ℕ → List ℕ → Insns → ℕ → List ℕ → Type 0
-StandIn pc bytes [] next left = (next ≡ pc) × (left ≡ bytes)
-StandIn pc bytes ((at, insn) ∷ insns) next left =
-    (at ≡ pc) × (behind : List ℕ) × (insn_at pc bytes ≡ Ok (insn, behind)) × StandIn (pc + (length bytes - length behind)) behind insns next left
+abbrev pub AreIn : ℕ → List ℕ → Insns → ℕ → List ℕ → Type 0
+AreIn pc bytes [] next left = (next ≡ pc) × (left ≡ bytes)
+AreIn pc bytes ((at, insn) ∷ insns) next left =
+    (at ≡ pc) × (suffix : List ℕ) × (insn_at pc bytes ≡ Ok (insn, suffix)) × AreIn (pc + (length bytes - length suffix)) suffix insns next left
 
 -- the code is these instructions
 abbrev pub CodeIs : List ℕ → Insns → Type 0
-CodeIs code insns = (end : ℕ) × StandIn 0 code insns end []
+CodeIs code insns = (end : ℕ) × AreIn 0 code insns end []
 
 -- the first place where no instruction stands, and why
 pub record FailsAt (code : List ℕ) (pc : ℕ) (why : Fault) : Type 0 where
   pub before : Insns
   pub left : List ℕ
-  pub stand : StandIn 0 code before pc left
+  pub stand : AreIn 0 code before pc left
   pub there : 0 < length left
   pub fails : insn_at pc left ≡ Err why
 
 -- ---- starts and targets
 
--- an instruction stands at the pc
+-- an instruction is at the pc
 abbrev pub IsStart : Insns → ℕ → Type 0
 IsStart insns pc = Contains (map (λ x. x.0) insns) pc
 
@@ -95,13 +95,13 @@ at_pc pc fault.BadCode = BadCode pc
 at_pc pc fault.Memory = Memory
 
 -- these instructions, and then those that were read
-abbrev pub with_front : Insns → Result Insns CodeRefusal → Result Insns CodeRefusal
-with_front front (Ok insns) = Ok (front ++ insns)
-with_front front (Err why) = Err why
+abbrev pub with_prefix : Insns → Result Insns CodeRefusal → Result Insns CodeRefusal
+with_prefix prefix (Ok insns) = Ok (prefix ++ insns)
+with_prefix prefix (Err why) = Err why
 
--- the instruction at the front, and then the rest
-abbrev pub go_on : (ℕ → List ℕ → Result Insns CodeRefusal) → ℕ → List ℕ → Front → Result Insns CodeRefusal
-go_on rest pc bytes (Ok (insn, behind)) = with_front ((pc, insn) ∷ []) (rest (pc + (length bytes - length behind)) behind)
+-- the instruction at the prefix, and then the rest
+abbrev pub go_on : (ℕ → List ℕ → Result Insns CodeRefusal) → ℕ → List ℕ → Prefix → Result Insns CodeRefusal
+go_on rest pc bytes (Ok (insn, suffix)) = with_prefix ((pc, insn) ∷ []) (rest (pc + (length bytes - length suffix)) suffix)
 go_on rest pc bytes (Err why) = Err (at_pc pc why)
 
 -- the instructions in the bytes from pc on, of which there are at most so many

@@ -1,4 +1,4 @@
--- The operands of instructions (JVMS 6.5): each is a value and the bytes behind it, or a fault.
+-- The operands of instructions (JVMS 6.5): each is a value and the bytes after it, or a fault.
 use Rattle.std.specs.Prelude.{◌≡◌, ℕ, ℤ, pos, negsuc, ◌+ℤ◌, ◌-◌, ◌^◌, nat_lt, if◌then◌else◌, List, [], ◌∷◌, length, take, drop, Result, Ok, Err}
 use Rattle.std.specs.Int.{w8, w16, w32, cast_signed}
 use Rattle.byteorder.specs.Endian.{big_number}
@@ -56,8 +56,8 @@ nowhere = 2 ^ 32 - 1
 
 -- the place itself where it is a pc, else nowhere
 abbrev pub as_pc : ℤ → ℕ
-as_pc (pos place) = if nat_lt nowhere place then nowhere else place
-as_pc (negsuc place) = nowhere
+as_pc (pos destination) = if nat_lt nowhere destination then nowhere else destination
+as_pc (negsuc destination) = nowhere
 
 -- a target counts from its instruction's pc
 abbrev pub target : ℕ → ℤ → ℕ

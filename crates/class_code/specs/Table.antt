@@ -1,5 +1,5 @@
 -- The table of instructions (JVMS 6.5), family by family, by rising opcode. An opcode decides what its
--- operands are. A family that reads an opcode of its range answers the instruction and the bytes behind
+-- operands are. A family that reads an opcode of its range answers the instruction and the bytes after
 -- it, or why none stands there: the opcode is left out, or the bytes are none of the Java standard.
 use Rattle.std.specs.Prelude.{ℕ, ℤ, zero, suc, pos, ◌+◌, ◌-◌, ◌%◌, ◌+ℤ◌, ◌-ℤ◌, Bool, true, ◌&&◌, ◌||◌, ◌==◌, nat_le, if◌then◌else◌, List, [], ◌∷◌, Option, Some, None, Result, Ok, Err}
 use Rattle.std.specs.Int.{w64, cast_unsigned}
@@ -25,27 +25,27 @@ use Rattle.class_code.specs.declared.insn.Insn.{Insn}
 use Rattle.class_code.specs.declared.insn.Insn.TheVariants.{Nop, Null, Push, Ldc, Load, Store, Inc, Stack, Bin, Neg, Convert, If, IfCmp, IfRef, Goto, Switch, Return, GetStatic, PutStatic, GetField, PutField, CallVirtual, CallSpecial, CallStatic, CallInterface, New, NewArray, NewRefArray, ArrayLength, ArrayLoad, ArrayStore, Throw, CheckCast, InstanceOf, MultiArray}
 use Rattle.class_code.specs.Operands.{◌>>=◌, u1_at, u2_at, i1_at, i2_at, i4_at, slice_at, target, target_at, far_target_at}
 
--- an instruction and the bytes behind it, or a fault
-abbrev pub Front : Type 0
-Front = Result (Insn × List ℕ) Fault
+-- an instruction and the bytes after it, or a fault
+abbrev pub Prefix : Type 0
+Prefix = Result (Insn × List ℕ) Fault
 
 -- the opcode is one of the Java standard that is left out
-abbrev pub left_out : ℕ → Front
+abbrev pub left_out : ℕ → Prefix
 left_out opcode = Err (Unsupported opcode)
 
 abbrev pub is_within : ℕ → ℕ → ℕ → Bool
 is_within low high n = nat_le low n && nat_le n high
 
 -- an instruction with one operand
-abbrev pub with_u1 : (ℕ → Insn) → List ℕ → Front
+abbrev pub with_u1 : (ℕ → Insn) → List ℕ → Prefix
 with_u1 insn operands = u1_at operands >>= λ x. Ok (insn x.0, x.1)
 
-abbrev pub with_u2 : (ℕ → Insn) → List ℕ → Front
+abbrev pub with_u2 : (ℕ → Insn) → List ℕ → Prefix
 with_u2 insn operands = u2_at operands >>= λ x. Ok (insn x.0, x.1)
 
 -- ---- constants, 0 to 20
 
-unfoldable pub constant : ℕ → List ℕ → Front
+unfoldable pub constant : ℕ → List ℕ → Prefix
 constant opcode operands =
     if opcode == 0 then Ok (Nop, operands)  -- nop
     else (if opcode == 1 then Ok (Null, operands)  -- aconst_null
@@ -58,7 +58,7 @@ constant opcode operands =
 
 -- ---- loads, 21 to 53
 
-unfoldable pub load : ℕ → List ℕ → Front
+unfoldable pub load : ℕ → List ℕ → Prefix
 load opcode operands =
     if opcode == 21 then with_u1 (Load value.Int) operands  -- iload
     else (if opcode == 25 then with_u1 (Load value.Ref) operands  -- aload
@@ -66,7 +66,7 @@ load opcode operands =
     else (if is_within 42 45 opcode then Ok (Load value.Ref (opcode - 42), operands)  -- aload_0 42 to aload_3 45
     else left_out opcode)))  -- lload 22 to dload 24, lload_0 30 to dload_3 41
 
-unfoldable pub array_load : ℕ → List ℕ → Front
+unfoldable pub array_load : ℕ → List ℕ → Prefix
 array_load opcode operands =
     if opcode == 46 then Ok (ArrayLoad element.Int, operands)  -- iaload
     else (if opcode == 50 then Ok (ArrayLoad element.Ref, operands)  -- aaload
@@ -77,7 +77,7 @@ array_load opcode operands =
 
 -- ---- stores, 54 to 86
 
-unfoldable pub store : ℕ → List ℕ → Front
+unfoldable pub store : ℕ → List ℕ → Prefix
 store opcode operands =
     if opcode == 54 then with_u1 (Store value.Int) operands  -- istore
     else (if opcode == 58 then with_u1 (Store value.Ref) operands  -- astore
@@ -85,7 +85,7 @@ store opcode operands =
     else (if is_within 75 78 opcode then Ok (Store value.Ref (opcode - 75), operands)  -- astore_0 75 to astore_3 78
     else left_out opcode)))  -- lstore 55 to dstore 57, lstore_0 63 to dstore_3 74
 
-unfoldable pub array_store : ℕ → List ℕ → Front
+unfoldable pub array_store : ℕ → List ℕ → Prefix
 array_store opcode operands =
     if opcode == 79 then Ok (ArrayStore element.Int, operands)  -- iastore
     else (if opcode == 83 then Ok (ArrayStore element.Ref, operands)  -- aastore
@@ -126,17 +126,17 @@ operation opcode =
     else (if opcode == 130 then Some op.Xor  -- ixor
     else None))))))))))
 
-abbrev pub binary : ℕ → List ℕ → Option BinOp → Front
+abbrev pub binary : ℕ → List ℕ → Option BinOp → Prefix
 binary opcode operands None = left_out opcode  -- those of long, float and double
 binary opcode operands (Some operation) = Ok (Bin operation, operands)
 
-unfoldable pub increment : List ℕ → Front
+unfoldable pub increment : List ℕ → Prefix
 increment operands = do
   local ← u1_at operands
   amount ← i1_at local.1
   Ok (Inc local.0 amount.0, amount.1)
 
-unfoldable pub math : ℕ → List ℕ → Front
+unfoldable pub math : ℕ → List ℕ → Prefix
 math opcode operands =
     if opcode == 116 then Ok (Neg, operands)  -- ineg
     else (if opcode == 132 then increment operands  -- iinc
@@ -144,7 +144,7 @@ math opcode operands =
 
 -- ---- conversions, 133 to 152
 
-unfoldable pub conversion : ℕ → List ℕ → Front
+unfoldable pub conversion : ℕ → List ℕ → Prefix
 conversion opcode operands =
     if opcode == 145 then Ok (Convert conv.Byte, operands)  -- i2b
     else (if opcode == 146 then Ok (Convert conv.Char, operands)  -- i2c
@@ -177,7 +177,7 @@ jump opcode target =
     else (if is_within 159 164 opcode then IfCmp (condition (opcode - 159)) target  -- if_icmpeq 159 to if_icmple 164
     else IfRef (ref_condition opcode) target)
 
-unfoldable pub branch : ℕ → ℕ → List ℕ → Front
+unfoldable pub branch : ℕ → ℕ → List ℕ → Prefix
 branch pc opcode operands = target_at pc operands >>= λ x. Ok (jump opcode x.0, x.1)
 
 -- ---- switches, 170 and 171
@@ -192,7 +192,7 @@ padding_at pc operands = do
   padding ← slice_at (3 - pc % 4) operands
   if are_zero padding.0 then Ok padding.1 else Err BadCode
 
--- so many targets, of keys that follow one another from the one behind so many
+-- so many targets, of keys that follow one another from the one after so many
 unfoldable pub table_rows : ℕ → ℤ → ℕ → ℕ → List ℕ → Result (List SwitchRow × List ℕ) Fault
 table_rows pc low index zero bytes = Ok ([], bytes)
 table_rows pc low index (suc count) bytes = do
@@ -204,7 +204,7 @@ table_rows pc low index (suc count) bytes = do
 abbrev pub span : ℤ → ℤ → ℕ
 span low high = cast_unsigned w64 (high -ℤ low) + 1
 
-unfoldable pub tableswitch : ℕ → List ℕ → Front
+unfoldable pub tableswitch : ℕ → List ℕ → Prefix
 tableswitch pc operands = do
   padded ← padding_at pc operands
   default ← far_target_at pc padded
@@ -232,7 +232,7 @@ lookup_rows pc before (suc count) bytes = do
   rows ← lookup_rows pc (Some row.0.key) count row.1
   Ok (row.0 ∷ rows.0, rows.1)
 
-unfoldable pub lookupswitch : ℕ → List ℕ → Front
+unfoldable pub lookupswitch : ℕ → List ℕ → Prefix
 lookupswitch pc operands = do
   padded ← padding_at pc operands
   default ← far_target_at pc padded
@@ -242,7 +242,7 @@ lookupswitch pc operands = do
 
 -- ---- control, 167 to 177
 
-unfoldable pub control : ℕ → ℕ → List ℕ → Front
+unfoldable pub control : ℕ → ℕ → List ℕ → Prefix
 control pc opcode operands =
     if opcode == 167 then (target_at pc operands >>= λ x. Ok (Goto x.0, x.1))  -- goto
     else (if opcode == 170 then tableswitch pc operands  -- tableswitch
@@ -255,7 +255,7 @@ control pc opcode operands =
 -- ---- references, 178 to 195
 
 -- the index, the count of argument places, and a byte of zero
-unfoldable pub call_interface : List ℕ → Front
+unfoldable pub call_interface : List ℕ → Prefix
 call_interface operands = do
   method ← u2_at operands
   count ← u1_at method.1
@@ -273,7 +273,7 @@ member_insn opcode index =
     else (if opcode == 183 then CallSpecial index  -- invokespecial
     else CallStatic index)))))  -- invokestatic 184
 
-unfoldable pub member : ℕ → List ℕ → Front
+unfoldable pub member : ℕ → List ℕ → Prefix
 member opcode operands =
     if opcode == 185 then call_interface operands  -- invokeinterface
     else (if opcode == 186 then left_out opcode  -- invokedynamic
@@ -290,7 +290,7 @@ array_kind code =
     else (if code == 6 || code == 7 || code == 11 then Err (Unsupported 188)  -- float, double, long
     else Err BadCode)))))
 
-unfoldable pub new_array : List ℕ → Front
+unfoldable pub new_array : List ℕ → Prefix
 new_array operands = do
   code ← u1_at operands
   kind ← array_kind code.0
@@ -304,7 +304,7 @@ class_insn opcode index =
     else (if opcode == 192 then CheckCast index  -- checkcast
     else InstanceOf index))  -- instanceof 193
 
-unfoldable pub object : ℕ → List ℕ → Front
+unfoldable pub object : ℕ → List ℕ → Prefix
 object opcode operands =
     if opcode == 188 then new_array operands  -- newarray
     else (if opcode == 190 then Ok (ArrayLength, operands)  -- arraylength
@@ -314,14 +314,14 @@ object opcode operands =
 
 -- ---- extended, 196 to 201
 
-unfoldable pub wide_increment : List ℕ → Front
+unfoldable pub wide_increment : List ℕ → Prefix
 wide_increment operands = do
   local ← u2_at operands
   amount ← i2_at local.1
   Ok (Inc local.0 amount.0, amount.1)
 
--- the opcode behind wide, which has a local in two bytes
-unfoldable pub widened : ℕ → List ℕ → Front
+-- the opcode after wide, which has a local in two bytes
+unfoldable pub widened : ℕ → List ℕ → Prefix
 widened opcode operands =
     if opcode == 21 then with_u2 (Load value.Int) operands  -- iload
     else (if opcode == 25 then with_u2 (Load value.Ref) operands  -- aload
@@ -331,19 +331,19 @@ widened opcode operands =
     else (if is_within 22 24 opcode || is_within 55 57 opcode || opcode == 169 then left_out opcode  -- lload to dload, lstore to dstore, ret
     else Err BadCode)))))
 
-unfoldable pub wide : List ℕ → Front
+unfoldable pub wide : List ℕ → Prefix
 wide operands = u1_at operands >>= λ x. widened x.0 x.1
 
-unfoldable pub multi_array : List ℕ → Front
+unfoldable pub multi_array : List ℕ → Prefix
 multi_array operands = do
   class ← u2_at operands
   dims ← u1_at class.1
   Ok (MultiArray class.0 dims.0, dims.1)
 
-unfoldable pub goto_w : ℕ → List ℕ → Front
+unfoldable pub goto_w : ℕ → List ℕ → Prefix
 goto_w pc operands = far_target_at pc operands >>= λ x. Ok (Goto x.0, x.1)
 
-unfoldable pub extended : ℕ → ℕ → List ℕ → Front
+unfoldable pub extended : ℕ → ℕ → List ℕ → Prefix
 extended pc opcode operands =
     if opcode == 196 then wide operands  -- wide
     else (if opcode == 197 then multi_array operands  -- multianewarray
@@ -355,7 +355,7 @@ extended pc opcode operands =
 
 -- ---- the whole table
 
-unfoldable pub by_opcode : ℕ → ℕ → List ℕ → Front
+unfoldable pub by_opcode : ℕ → ℕ → List ℕ → Prefix
 by_opcode pc opcode operands =
     if nat_le opcode 20 then constant opcode operands
     else (if nat_le opcode 45 then load opcode operands
@@ -371,7 +371,7 @@ by_opcode pc opcode operands =
     else (if nat_le opcode 195 then object opcode operands
     else extended pc opcode operands)))))))))))
 
--- the instruction at the front of the bytes, which begin at pc
-unfoldable pub insn_at : ℕ → List ℕ → Front
+-- the instruction at the prefix of the bytes, which begin at pc
+unfoldable pub insn_at : ℕ → List ℕ → Prefix
 insn_at pc [] = Err BadCode
 insn_at pc (opcode ∷ operands) = by_opcode pc opcode operands

@@ -9,7 +9,7 @@ use crate::operand::target_at;
 use crate::refusal::Fault;
 use cell_num::Cond;
 
-/// The condition that stands so many opcodes behind that of equality.
+/// The condition that stands so many opcodes after that of equality.
 #[tactic(auto, unfolding(crate::specs::Table::condition))]
 fn condition(code: u8) -> Cond
     ensures { result ≡ condition code }

@@ -45,7 +45,7 @@ impl CodeList {
         insns
     }
 
-    /// Whether an instruction stands at a pc.
+    /// Whether an instruction is at a pc.
     pub fn is_start(&self, pc: u32) -> bool
         ensures meaning { IsTrue result ↔ IsStart self.now pc }
         ensures test { result ≡ is_start_of self.now pc }
@@ -65,7 +65,7 @@ fn at_pc(pc: u32, fault: Fault) -> CodeRefusal
     }
 }
 
-/// The instructions, one behind the other.
+/// The instructions, one after the other.
 fn insns(alloc: Global, code: &[u8]) -> Result<Vec<(u32, Insn)>, CodeRefusal>
     requires { length code.now < 2 ^ 32 }
     ensures { Answers (λ v. v.items) result (insns_of 0 code.now) }
@@ -75,10 +75,10 @@ fn insns(alloc: Global, code: &[u8]) -> Result<Vec<(u32, Insn)>, CodeRefusal>
     let mut rest = code;
     while !rest.is_empty() {
         match insn_at(alloc, pc, rest) {
-            Ok((insn, behind)) => {
+            Ok((insn, suffix)) => {
                 insns.push((pc, insn))?;
-                pc += (rest.len() - behind.len()) as u32;
-                rest = behind;
+                pc += (rest.len() - suffix.len()) as u32;
+                rest = suffix;
             }
             Err(fault) => return Err(at_pc(pc, fault)),
         }

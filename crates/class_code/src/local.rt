@@ -8,7 +8,7 @@ use crate::insn::{Insn, ValueKind};
 use crate::operand::u1_at;
 use crate::refusal::Fault;
 
-/// iload and aload in all forms but that behind wide.
+/// iload and aload in all forms but that after wide.
 #[tactic(auto, unfolding(crate::specs::Table::load))]
 pub(crate) fn load(opcode: u8, operands: &[u8]) -> Result<(Insn, &[u8]), Fault>
     ensures { Gives (λ x. (x.0, x.1.now)) result (load opcode operands.now) }
@@ -28,7 +28,7 @@ pub(crate) fn load(opcode: u8, operands: &[u8]) -> Result<(Insn, &[u8]), Fault>
     }
 }
 
-/// istore and astore in all forms but that behind wide.
+/// istore and astore in all forms but that after wide.
 #[tactic(auto, unfolding(crate::specs::Table::store))]
 pub(crate) fn store(opcode: u8, operands: &[u8]) -> Result<(Insn, &[u8]), Fault>
     ensures { Gives (λ x. (x.0, x.1.now)) result (store opcode operands.now) }

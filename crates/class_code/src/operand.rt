@@ -1,4 +1,4 @@
-//! The operands of an instruction, and the bytes behind them.
+//! The operands of an instruction, and the bytes after them.
 
 ghost use Rattle.std.specs.Prelude.{◌≡◌};
 ghost use Rattle.class_code.specs.Operands.{Gives, u1_at, u2_at, u4_at, i1_at, i2_at, i4_at, slice_at, target, target_at, far_target_at};
@@ -81,11 +81,11 @@ pub(crate) fn slice_at(size: usize, bytes: &[u8]) -> Result<(&[u8], &[u8]), Faul
 fn target(pc: u32, offset: i32) -> u32
     ensures { result ≡ target pc offset }
 {
-    let place = i64::from(pc) + i64::from(offset);
-    if place < 0 || place > i64::from(u32::MAX) {
+    let destination = i64::from(pc) + i64::from(offset);
+    if destination < 0 || destination > i64::from(u32::MAX) {
         return u32::MAX;
     }
-    place as u32
+    destination as u32
 }
 
 /// The target of an offset in two bytes.

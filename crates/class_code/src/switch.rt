@@ -20,7 +20,7 @@ fn are_zero(bytes: &[u8]) -> bool
     }
 }
 
-/// The bytes behind the padding of a switch at `pc`, which is of zeros, up to a multiple of four.
+/// The bytes after the padding of a switch at `pc`, which is of zeros, up to a multiple of four.
 #[tactic(auto, unfolding(crate::specs::Table::padding_at))]
 fn padding_at(pc: u32, operands: &[u8]) -> Result<&[u8], Fault>
     ensures { Gives (λ x. x.now) result (padding_at pc operands.now) }
@@ -32,7 +32,7 @@ fn padding_at(pc: u32, operands: &[u8]) -> Result<&[u8], Fault>
     Ok(rest)
 }
 
-/// The key so many places behind the first.
+/// The key so many places after the first.
 fn key_of(low: i32, index: usize) -> i32
     requires { (low +ℤ pos index) <ℤ pos (2 ^ 31) }
     ensures { result ≡ low +ℤ pos index }

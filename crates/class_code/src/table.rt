@@ -1,4 +1,4 @@
-//! The instruction at the front of some bytes (JVMS 6.5).
+//! The instruction at the prefix of some bytes (JVMS 6.5).
 
 ghost use Rattle.std.specs.Prelude.{◌≡◌};
 ghost use Rattle.class_code.specs.Operands.{Gives};
@@ -39,7 +39,7 @@ fn by_opcode(alloc: Global, pc: u32, opcode: u8, operands: &[u8]) -> Result<(Ins
     }
 }
 
-/// The instruction at the front of the bytes, which begin at `pc`, and the bytes behind it.
+/// The instruction at the prefix of the bytes, which begin at `pc`, and the bytes after it.
 #[tactic(auto, unfolding(crate::specs::Table::insn_at))]
 pub(crate) fn insn_at(alloc: Global, pc: u32, bytes: &[u8]) -> Result<(Insn, &[u8]), Fault>
     ensures { Gives (λ x. (x.0, x.1.now)) result (insn_at pc bytes.now) }

@@ -10,7 +10,7 @@ use crate::operand::{far_target_at, i2_at, u1_at, u2_at};
 use crate::reference::multi_array;
 use crate::refusal::Fault;
 
-/// iinc behind wide.
+/// iinc after wide.
 #[tactic(auto, unfolding(crate::specs::Table::wide_increment))]
 fn wide_increment(operands: &[u8]) -> Result<(Insn, &[u8]), Fault>
     ensures { Gives (λ x. (x.0, x.1.now)) result (wide_increment operands.now) }
@@ -20,7 +20,7 @@ fn wide_increment(operands: &[u8]) -> Result<(Insn, &[u8]), Fault>
     Ok((Insn::Inc { local, amount }, rest))
 }
 
-/// An opcode behind wide. One that is left out is so whatever stands behind it.
+/// An opcode after wide. One that is left out is so whatever follows it.
 #[tactic(auto, unfolding(crate::specs::Table::widened))]
 fn widened(opcode: u8, operands: &[u8]) -> Result<(Insn, &[u8]), Fault>
     ensures { Gives (λ x. (x.0, x.1.now)) result (widened opcode operands.now) }

@@ -2,7 +2,7 @@
 use Rattle.std.proofs.Common.{◌≡◌, ℕ, ◌^◌, ◌<◌, List, ◌++◌, length, Result, Ok, refl, sym, ap, subst}
 use Rattle.std.specs.Prelude.{IsSome}
 use Rattle.std.specs.List.{AllByRecursion}
-use Rattle.class_pool.specs.Pool.{Places, utf8_at, is_utf8_at}
+use Rattle.class_pool.specs.Pool.{Slots, utf8_at, is_utf8_at}
 use Rattle.class_file.specs.declared.refusal.ReadRefusal.{ReadRefusal}
 use Rattle.class_file.specs.declared.refusal.ReadRefusal.TheVariants.{BadShape}
 use Rattle.class_file.specs.Layout.{u2, u4, counted, Attribute, attribute_bytes}
@@ -13,11 +13,11 @@ use Rattle.class_file.proofs.Steps.{under}
 use Rattle.class_file.proofs.Parts.{Reads, itself, u2_reads, u4_reads, slice_reads, first, last, tested, alike, reshaped}
 use Rattle.class_file.proofs.Lists.{counted_reads, split, merged}
 
-pub text_reads : (pool : Places) → Reads (text_at pool) u2 itself (λ index. FitsU2 index × IsSome (utf8_at pool index))
+pub text_reads : (pool : Slots) → Reads (text_at pool) u2 itself (λ index. FitsU2 index × IsSome (utf8_at pool index))
 unfolding text_at
 text_reads pool = tested u2_reads (λ index. is_utf8_at pool index) BadShape tt
 
--- bytes behind their length
+-- bytes after their length
 abbrev pub sized : List ℕ → List ℕ
 sized info = u4 (length info) ++ info
 
@@ -34,12 +34,12 @@ info_reads =
 abbrev nothing : {A : Type 0} → A → Unit {0}
 nothing a = tt
 
-skipped_is : (pool : Places) (before : Unit {0}) (bytes : List ℕ) → skipped pool before bytes ≡ (text_at pool bytes >>= λ name. info_at name.1 >>= λ info. Ok (tt, info.1))
+skipped_is : (pool : Slots) (before : Unit {0}) (bytes : List ℕ) → skipped pool before bytes ≡ (text_at pool bytes >>= λ name. info_at name.1 >>= λ info. Ok (tt, info.1))
 unfolding skip_at
 skipped_is pool before bytes =
     sym (under (text_at pool bytes) _ _ _ (λ name. under (info_at name.1) _ _ _ (λ info. refl)))
 
-pub skip_reads : (pool : Places) (before : Unit {0}) → Reads (skipped pool before) attribute_bytes nothing (λ a. FitsAttribute a × IsSkippable pool a)
+pub skip_reads : (pool : Slots) (before : Unit {0}) → Reads (skipped pool before) attribute_bytes nothing (λ a. FitsAttribute a × IsSkippable pool a)
 skip_reads pool before =
     alike
     (reshaped (first (text_reads pool) (λ name. last info_reads nothing)) (λ p. record { name = p.0; info = p.1 })
@@ -49,13 +49,13 @@ skip_reads pool before =
     (skipped_is pool before)
 
 -- the attributes of a class, or of code
-abbrev pub AreSkipped : Places → List Attribute → Type 0
+abbrev pub AreSkipped : Slots → List Attribute → Type 0
 AreSkipped pool attributes = FitsU2 (length attributes) × AllByRecursion FitsAttribute attributes × AllByRecursion (IsSkippable pool) attributes
 
-abbrev all_skipped : Places → List ℕ → Result (Unit {0} × List ℕ) ReadRefusal
+abbrev all_skipped : Slots → List ℕ → Result (Unit {0} × List ℕ) ReadRefusal
 all_skipped pool bytes = counted_at (skipped pool) tt bytes
 
-all_skipped_reads : (pool : Places) → Reads (all_skipped pool) (counted attribute_bytes) nothing (AreSkipped pool)
+all_skipped_reads : (pool : Slots) → Reads (all_skipped pool) (counted attribute_bytes) nothing (AreSkipped pool)
 all_skipped_reads pool =
     reshaped (counted_reads (skip_reads pool) tt) (λ attributes. attributes)
     (λ attributes good.
@@ -64,8 +64,8 @@ all_skipped_reads pool =
     (λ attributes. attributes)
     (λ attributes good. (refl, refl, (good.0, merged FitsAttribute (IsSkippable pool) (λ before a. tt) tt attributes good.1 good.2)))
 
--- behind what was read come attributes, which are skipped
-pub skip_behind : {A : Type 0} (pool : Places) (value : A) → Reads (λ bytes. skip_all_at pool bytes >>= λ rest. Ok (value, rest)) (counted attribute_bytes) (λ attributes. value) (AreSkipped pool)
+-- after what was read come attributes, which are skipped
+pub skip_after : {A : Type 0} (pool : Slots) (value : A) → Reads (λ bytes. skip_all_at pool bytes >>= λ rest. Ok (value, rest)) (counted attribute_bytes) (λ attributes. value) (AreSkipped pool)
 unfolding skip_all_at
-skip_behind pool value =
+skip_after pool value =
     alike (last (all_skipped_reads pool) (λ before. value)) (λ bytes. sym (under (all_skipped pool bytes) _ _ _ (λ x. refl)))

@@ -1,4 +1,4 @@
--- What stands behind the magic is that of a layout.
+-- What follows the magic is that of a layout.
 use Rattle.std.proofs.Common.{◌≡◌, ℕ, cond, eqb, List, [], ◌++◌, length, Result, Ok, Err, refl, sym, ap, subst, ◌∙◌, append_assoc}
 use Rattle.std.proofs.lemmas.Bool.{eqb-true, eqb-false}
 use Rattle.std.proofs.lemmas.List.{nil_from_length}
@@ -13,11 +13,11 @@ use Rattle.class_file.specs.Reading.{◌>>=◌}
 use Rattle.class_file.specs.ReadingClass.{capped, version_at, pool_at, class_head_at, members_at, body_of}
 use Rattle.class_file.proofs.Steps.{bind_then, bind_fails, ok_is, no_failure, same_why, then_ok, then_err, under, done, IsPartFault, chosen}
 use Rattle.class_file.proofs.Parts.{Taken}
-use Rattle.class_file.proofs.ClassParts.{Numbers, numbers_bytes, IsVersion, version_taken, version_again, IsOther, version_fails, version_refused, a_class_head, members_in, behind_version, Behind, behind_bytes, IsBehind, behind_reads, a_file}
+use Rattle.class_file.proofs.ClassParts.{Numbers, numbers_bytes, IsVersion, version_taken, version_again, IsOther, version_fails, version_refused, a_class_head, members_in, after_version, Suffix, after_bytes, IsAfter, after_reads, a_file}
 
 -- ---- the layout
 
--- the spelling of a layout without the magic
+-- the encoding of a layout without the magic
 abbrev pub body_bytes : Layout → List ℕ
 body_bytes l =
     u2 l.minor ++ (u2 l.major ++ (pool_bytes l.pool
@@ -28,7 +28,7 @@ pub record IsSound (l : Layout) : Type 0 where
   pub fits : FitsLayout l
   pub regular : IsRegular l
 
-abbrev made : Numbers → Behind → Layout
+abbrev made : Numbers → Suffix → Layout
 made v p =
     record {
       minor = v.0;
@@ -46,10 +46,10 @@ made v p =
 abbrev numbers_in : Layout → Numbers
 numbers_in l = (l.minor, l.major)
 
-abbrev behind_in : Layout → Behind
-behind_in l = (l.pool, (a_class_head l.flags l.this_class l.super_class l.interfaces, (l.fields, (l.methods, l.attributes))))
+abbrev after_in : Layout → Suffix
+after_in l = (l.pool, (a_class_head l.flags l.this_class l.super_class l.interfaces, (l.fields, (l.methods, l.attributes))))
 
-sound_made : (v : Numbers) (p : Behind) → IsVersion v → IsBehind p → IsSound (made v p)
+sound_made : (v : Numbers) (p : Suffix) → IsVersion v → IsAfter p → IsSound (made v p)
 sound_made v p version is =
     let head = is.1.0 in
     let fields = is.1.1.0 in
@@ -92,8 +92,8 @@ sound_made v p version is =
 version_of : (l : Layout) → IsSound l → IsVersion (numbers_in l)
 version_of l sound = ((sound.fits.minor, sound.fits.major), (sound.regular.first_version, sound.regular.last_version))
 
-behind_of : (l : Layout) → IsSound l → IsBehind (behind_in l)
-behind_of l sound =
+after_of : (l : Layout) → IsSound l → IsAfter (after_in l)
+after_of l sound =
     let fits = sound.fits in
     let rules = sound.regular in (
       rules.is_pool,
@@ -113,10 +113,10 @@ behind_of l sound =
       ),
     )
 
--- ---- the parts, and what is behind them
+-- ---- the parts, and what is after them
 
 abbrev pub parts_of : List ℕ → Result (ClassFile × List ℕ) ReadRefusal
-parts_of bytes = version_at bytes >>= λ version. behind_version version.0 version.1
+parts_of bytes = version_at bytes >>= λ version. after_version version.0 version.1
 
 abbrev pub ended : ClassFile × List ℕ → Result ClassFile ReadRefusal
 ended x = cond (eqb (length x.1) 0) (Ok x.0) (Err (TrailingBytes (capped (length x.1))))
@@ -130,7 +130,7 @@ pub parts_taken : (bytes : List ℕ) (x : ClassFile × List ℕ) → IsBytes byt
 parts_taken bytes x fits e =
     bind_then (version_at bytes) _ x e (λ v at_v e_x.
     let t = version_taken bytes v fits at_v in
-    let o = (behind_reads v.0).taken v.1 x t.takes.rest_fits e_x in
+    let o = (after_reads v.0).taken v.1 x t.takes.rest_fits e_x in
     let takes : Takes bytes (body_bytes (made t.part o.part)) x.1 = joined t.takes o.takes in
     record {
       part = made t.part o.part;
@@ -141,10 +141,10 @@ parts_taken bytes x fits e =
 
 pub parts_again : (l : Layout) (rest : List ℕ) → IsSound l → parts_of (body_bytes l ++ rest) ≡ Ok (record_of l, rest)
 parts_again l rest sound =
-    ap parts_of (append_assoc (numbers_bytes (numbers_in l)) (behind_bytes (behind_in l)) rest)
-    ∙ then_ok _ (Ok (record_of l, rest)) (version_again (numbers_in l) (behind_bytes (behind_in l) ++ rest) (version_of l sound)) ((behind_reads (numbers_in l)).again (behind_in l) rest (behind_of l sound))
+    ap parts_of (append_assoc (numbers_bytes (numbers_in l)) (after_bytes (after_in l)) rest)
+    ∙ then_ok _ (Ok (record_of l, rest)) (version_again (numbers_in l) (after_bytes (after_in l) ++ rest) (version_of l sound)) ((after_reads (numbers_in l)).again (after_in l) rest (after_of l sound))
 
--- a layout is read up to its end, and what is behind it is told
+-- a layout is read up to its end, and what is after it is told
 pub body_again : (l : Layout) (rest : List ℕ) → IsSound l → body_of (body_bytes l ++ rest) ≡ ended (record_of l, rest)
 body_again l rest sound = body_is (body_bytes l ++ rest) ∙ then_ok ended (ended (record_of l, rest)) (parts_again l rest sound) refl
 
@@ -152,14 +152,14 @@ body_again l rest sound = body_is (body_bytes l ++ rest) ∙ then_ok ended (ende
 
 pub record IsBody (bytes tail : List ℕ) (file : ClassFile) : Type 0 where
   pub layout : Layout
-  pub spelled : bytes ≡ body_bytes layout ++ tail
+  pub encoded : bytes ≡ body_bytes layout ++ tail
   pub sound : IsSound layout
   pub stands : file ≡ record_of layout
 
 is_body : (bytes : List ℕ) (x : ClassFile × List ℕ) → IsBytes bytes → parts_of bytes ≡ Ok x → IsBody bytes x.1 x.0
 is_body bytes x fits e =
     let t = parts_taken bytes x fits e in
-    record { layout = t.part; spelled = t.takes.parts; sound = t.good; stands = sym t.value_is }
+    record { layout = t.part; encoded = t.takes.parts; sound = t.good; stands = sym t.value_is }
 
 pub body_taken : (bytes : List ℕ) (file : ClassFile) → IsBytes bytes → body_of bytes ≡ Ok file → IsBody bytes [] file
 body_taken bytes file fits e =
@@ -171,7 +171,7 @@ body_taken bytes file fits e =
 
 -- ---- how it fails
 
--- there is a class, and something behind it
+-- there is a class, and something after it
 pub record IsTailed (bytes : List ℕ) (why : ReadRefusal) : Type 0 where
   pub tail : List ℕ
   pub file : ClassFile
@@ -189,7 +189,7 @@ body_fails C bytes why fits e part other tail =
     bind_fails (parts_of bytes) ended why (sym (body_is bytes) ∙ e)
     (λ at_parts.
     bind_fails (version_at bytes) _ why at_parts (λ at_version. version_fails C bytes why fits at_version part other)
-    (λ v at_v e_why. part ((behind_reads v.0).fails v.1 why (version_taken bytes v fits at_v).takes.rest_fits e_why)))
+    (λ v at_v e_why. part ((after_reads v.0).fails v.1 why (version_taken bytes v fits at_v).takes.rest_fits e_why)))
     (λ x at_x e_why. tail (tailed bytes x why fits at_x e_why))
 
 pub body_refused : (bytes : List ℕ) (major : ℕ) → IsOther bytes major → body_of bytes ≡ Err (Version major)

@@ -6,7 +6,7 @@ use Rattle.std.proofs.lemmas.Bool.{and_parts, and_from, and_cases, and_left, and
 use Rattle.std.proofs.lemmas.List.{drop_at, map-id}
 use Rattle.class_pool.specs.declared.refusal.PoolRefusal.{PoolRefusal}
 use Rattle.class_pool.specs.declared.refusal.PoolRefusal.TheVariants.{Truncated as PoolTruncated, BadTag, BadIndex, BadUtf8, Memory as PoolMemory}
-use Rattle.class_pool.specs.Pool.{Places, pool_bytes, IsPool, IsPoolAt}
+use Rattle.class_pool.specs.Pool.{Slots, pool_bytes, IsPool, IsPoolAt}
 use Rattle.class_pool.specs.PoolRefused.{IsRefused}
 use Rattle.class_pool.specs.PoolReading.{pool_from}
 use Rattle.class_pool.proofs.Steps.{IsBytes, IsBytes-drop, Takes}
@@ -20,11 +20,11 @@ use Rattle.class_file.specs.Layout.{u2, counted, Attribute, attribute_bytes, Mem
 use Rattle.class_file.specs.Relation.{FitsU2}
 use Rattle.class_file.specs.Rules.{are_class_flags, names_class}
 use Rattle.class_file.specs.Reading.{◌>>=◌, u2_at}
-use Rattle.class_file.specs.ReadingClass.{version_at, of_pool, behind_pool, pool_at, class_flags_at, class_index_at, interfaces_at, class_head_at, members_at}
+use Rattle.class_file.specs.ReadingClass.{version_at, of_pool, after_pool, pool_at, class_flags_at, class_index_at, interfaces_at, class_head_at, members_at}
 use Rattle.class_file.proofs.Steps.{bind_then, bind_fails, ok_is, no_failure, then_ok, under, is_fault, IsPartFault, passes, stops}
 use Rattle.class_file.proofs.Parts.{Taken, Reads, itself, u2_reads, first, last, tested, reshaped}
 use Rattle.class_file.proofs.Lists.{list_reads, pushed, split, merged}
-use Rattle.class_file.proofs.Attributes.{AreSkipped, skip_behind}
+use Rattle.class_file.proofs.Attributes.{AreSkipped, skip_after}
 use Rattle.class_file.proofs.Members.{AreFields, fields_read, AreMethods, methods_read}
 
 -- ---- the version
@@ -77,7 +77,7 @@ pub record IsOther (bytes : List ℕ) (major : ℕ) : Type 0 where
   pub minor : ℕ
   pub more : List ℕ
   pub fits : FitsU2 minor × FitsU2 major
-  pub spelled : bytes ≡ numbers_bytes (minor, major) ++ more
+  pub encoded : bytes ≡ numbers_bytes (minor, major) ++ more
   pub other : (major < 45) ⊎ (52 < major)
 
 out_of_time : (major : ℕ) → in_time major ≡ false → (major < 45) ⊎ (52 < major)
@@ -98,22 +98,22 @@ version_fails C bytes why fits e part other =
     let t = numbers_read.taken bytes v fits at_v in
     let g = stops (in_time v.0.1) v (Version v.0.1) why e_why in
     let good = subst (λ (n : Numbers). FitsU2 n.0 × FitsU2 n.1) t.value_is t.good in
-    let spelled = subst (λ (n : Numbers). Takes bytes (numbers_bytes n) v.1) t.value_is t.takes in
-    other v.0.1 g.1 (record { minor = v.0.0; more = v.1; fits = good; spelled = spelled.parts; other = out_of_time v.0.1 g.0 }))
+    let encoded = subst (λ (n : Numbers). Takes bytes (numbers_bytes n) v.1) t.value_is t.takes in
+    other v.0.1 g.1 (record { minor = v.0.0; more = v.1; fits = good; encoded = encoded.parts; other = out_of_time v.0.1 g.0 }))
 
 pub version_refused : (bytes : List ℕ) (major : ℕ) → IsOther bytes major → version_at bytes ≡ Err (Version major)
 version_refused bytes major is =
     let test : in_time major ≡ false = not_in_time major is.other in
-    version_is bytes ∙ then_ok versed (Err (Version major)) (ap numbers_at is.spelled ∙ numbers_read.again (is.minor, major) is.more is.fits) (rw test refl)
+    version_is bytes ∙ then_ok versed (Err (Version major)) (ap numbers_at is.encoded ∙ numbers_read.again (is.minor, major) is.more is.fits) (rw test refl)
 
 -- ---- the pool
 
-abbrev pool_read : Places × List ℕ → Result (Places × List ℕ) ReadRefusal
+abbrev pool_read : Slots × List ℕ → Result (Slots × List ℕ) ReadRefusal
 pool_read x = Ok x
 
-behind_ok : {C : Type 0} (bytes : List ℕ) (r : Result (Places × ℕ) PoolRefusal) (x : Places × List ℕ) → behind_pool bytes r ≡ Ok x → ((y : Places × ℕ) → r ≡ Ok y → (y.0, drop y.1 bytes) ≡ x → C) → C
-behind_ok bytes (Ok y) x e go = go y refl (ok_is (y.0, drop y.1 bytes) x e)
-behind_ok bytes (Err why) x e go = absurd (no_failure x (of_pool why) (sym e))
+after_ok : {C : Type 0} (bytes : List ℕ) (r : Result (Slots × ℕ) PoolRefusal) (x : Slots × List ℕ) → after_pool bytes r ≡ Ok x → ((y : Slots × ℕ) → r ≡ Ok y → (y.0, drop y.1 bytes) ≡ x → C) → C
+after_ok bytes (Ok y) x e go = go y refl (ok_is (y.0, drop y.1 bytes) x e)
+after_ok bytes (Err why) x e go = absurd (no_failure x (of_pool why) (sym e))
 
 no_memory : (bytes : List ℕ) (d : PoolRefusal) → IsRefused bytes d → IsPartFault (of_pool d)
 no_memory bytes PoolTruncated r = tt
@@ -122,28 +122,28 @@ no_memory bytes (BadIndex index) r = tt
 no_memory bytes (BadUtf8 index) r = tt
 no_memory bytes PoolMemory r = absurd r
 
-behind_fails : (bytes : List ℕ) (r : Result (Places × ℕ) PoolRefusal) (why : ReadRefusal) → ((d : PoolRefusal) → r ≡ Err d → IsRefused bytes d) → behind_pool bytes r ≡ Err why → IsPartFault why
-behind_fails bytes (Ok y) why refused e = absurd (no_failure (y.0, drop y.1 bytes) why e)
-behind_fails bytes (Err d) why refused e = is_fault {A = Places × List ℕ} (of_pool d) why (no_memory bytes d (refused d refl)) e
+after_fails : (bytes : List ℕ) (r : Result (Slots × ℕ) PoolRefusal) (why : ReadRefusal) → ((d : PoolRefusal) → r ≡ Err d → IsRefused bytes d) → after_pool bytes r ≡ Err why → IsPartFault why
+after_fails bytes (Ok y) why refused e = absurd (no_failure (y.0, drop y.1 bytes) why e)
+after_fails bytes (Err d) why refused e = is_fault {A = Slots × List ℕ} (of_pool d) why (no_memory bytes d (refused d refl)) e
 
-pool_taken : (bytes : List ℕ) (x : Places × List ℕ) → IsBytes bytes → pool_at bytes ≡ Ok x → Taken pool_bytes itself IsPool bytes x
+pool_taken : (bytes : List ℕ) (x : Slots × List ℕ) → IsBytes bytes → pool_at bytes ≡ Ok x → Taken pool_bytes itself IsPool bytes x
 unfolding pool_at
 pool_taken bytes x fits e =
-    behind_ok bytes (pool_from bytes 0) x e (λ y at_y same.
+    after_ok bytes (pool_from bytes 0) x e (λ y at_y same.
     let is = from_found bytes 0 y fits (omega arith) at_y in
-    subst (Taken pool_bytes itself IsPool bytes) same (record { part = y.0; takes = record { parts = is.spelled; rest_fits = IsBytes-drop y.1 bytes fits }; good = is.is_pool; value_is = refl }))
+    subst (Taken pool_bytes itself IsPool bytes) same (record { part = y.0; takes = record { parts = is.encoded; rest_fits = IsBytes-drop y.1 bytes fits }; good = is.is_pool; value_is = refl }))
 
-pool_again : (pool : Places) (rest : List ℕ) → IsPool pool → pool_at (pool_bytes pool ++ rest) ≡ Ok (pool, rest)
+pool_again : (pool : Slots) (rest : List ℕ) → IsPool pool → pool_at (pool_bytes pool ++ rest) ≡ Ok (pool, rest)
 unfolding pool_at
 pool_again pool rest is =
-    let behind : drop (length (pool_bytes pool)) (pool_bytes pool ++ rest) ≡ rest = drop_at (pool_bytes pool) rest (length (pool_bytes pool)) refl in
+    let suffix : drop (length (pool_bytes pool)) (pool_bytes pool ++ rest) ≡ rest = drop_at (pool_bytes pool) rest (length (pool_bytes pool)) refl in
     let stands : IsPoolAt (pool_bytes pool ++ rest) 0 pool (length (pool_bytes pool)) =
-    record { is_pool = is; spelled = ap (λ (t : List ℕ). pool_bytes pool ++ t) (sym behind); ends = omega arith } in
-    ap (behind_pool (pool_bytes pool ++ rest)) (from_read (pool_bytes pool ++ rest) 0 pool (length (pool_bytes pool)) (omega arith) stands) ∙ ap (λ (t : List ℕ). pool_read (pool, t)) behind
+    record { is_pool = is; encoded = ap (λ (t : List ℕ). pool_bytes pool ++ t) (sym suffix); ends = omega arith } in
+    ap (after_pool (pool_bytes pool ++ rest)) (from_read (pool_bytes pool ++ rest) 0 pool (length (pool_bytes pool)) (omega arith) stands) ∙ ap (λ (t : List ℕ). pool_read (pool, t)) suffix
 
 pool_fails : (bytes : List ℕ) (why : ReadRefusal) → IsBytes bytes → pool_at bytes ≡ Err why → IsPartFault why
 unfolding pool_at
-pool_fails bytes why fits e = behind_fails bytes (pool_from bytes 0) why (λ d at_d. from_fails bytes 0 d fits at_d) e
+pool_fails bytes why fits e = after_fails bytes (pool_from bytes 0) why (λ d at_d. from_fails bytes 0 d fits at_d) e
 
 pool_reads : Reads pool_at pool_bytes itself IsPool
 pool_reads = record { taken = pool_taken; again = pool_again; fails = pool_fails }
@@ -154,14 +154,14 @@ flags_read : Reads class_flags_at u2 itself (λ flags. FitsU2 flags × IsTrue (a
 unfolding class_flags_at
 flags_read = tested u2_reads (λ flags. are_class_flags flags) BadShape tt
 
-index_reads : (pool : Places) → Reads (class_index_at pool) u2 itself (λ index. FitsU2 index × IsTrue (names_class pool index))
+index_reads : (pool : Slots) → Reads (class_index_at pool) u2 itself (λ index. FitsU2 index × IsTrue (names_class pool index))
 unfolding class_index_at
 index_reads pool = tested u2_reads (λ index. names_class pool index) BadShape tt
 
-abbrev AreInterfaces : Places → List ℕ → Type 0
+abbrev AreInterfaces : Slots → List ℕ → Type 0
 AreInterfaces pool indices = FitsU2 (length indices) × AllByRecursion FitsU2 indices × AllByRecursion (λ index. IsTrue (names_class pool index)) indices
 
-interfaces_read : (pool : Places) → Reads (interfaces_at pool) (counted u2) itself (AreInterfaces pool)
+interfaces_read : (pool : Slots) → Reads (interfaces_at pool) (counted u2) itself (AreInterfaces pool)
 unfolding interfaces_at
 interfaces_read pool =
     reshaped (list_reads (λ earlier. index_reads pool)) (λ indices. indices)
@@ -177,7 +177,7 @@ a_class_head flags this_class super_class interfaces = record { flags = flags; t
 abbrev pub class_head_bytes : ClassHead → List ℕ
 class_head_bytes head = u2 head.flags ++ (u2 head.this_class ++ (u2 head.super_class ++ counted u2 head.interfaces))
 
-pub record IsClassHead (pool : Places) (head : ClassHead) : Type 0 where
+pub record IsClassHead (pool : Slots) (head : ClassHead) : Type 0 where
   pub flags : FitsU2 head.flags
   pub flags_are : IsTrue (are_class_flags head.flags)
   pub this_class : FitsU2 head.this_class
@@ -188,7 +188,7 @@ pub record IsClassHead (pool : Places) (head : ClassHead) : Type 0 where
   pub interfaces : AllByRecursion FitsU2 head.interfaces
   pub interfaces_are : AllByRecursion (λ index. IsTrue (names_class pool index)) head.interfaces
 
-class_head_reads : (pool : Places) → Reads (class_head_at pool) class_head_bytes itself (IsClassHead pool)
+class_head_reads : (pool : Slots) → Reads (class_head_at pool) class_head_bytes itself (IsClassHead pool)
 unfolding class_head_at
 class_head_reads pool =
     reshaped (first flags_read (λ flags. first (index_reads pool) (λ this_class. first (index_reads pool) (λ super_class. last (interfaces_read pool) (λ interfaces. a_class_head flags this_class super_class interfaces)))))
@@ -226,19 +226,19 @@ rest_bytes p = counted member_bytes p.0 ++ (counted member_bytes p.1.0 ++ counte
 abbrev pub members_in : Rest → List Member × List Member
 members_in p = (map member_of p.0, map member_of p.1.0)
 
-abbrev pub IsRest : ℕ → Places → Rest → Type 0
+abbrev pub IsRest : ℕ → Slots → Rest → Type 0
 IsRest class_flags pool p = AreFields class_flags pool p.0 × (AreMethods class_flags pool p.1.0 × AreSkipped pool p.1.1)
 
 abbrev two : List Member → List Member → List Member × List Member
 two fields methods = (fields, methods)
 
-rest_reads : (class_flags : ℕ) (pool : Places) → Reads (members_at class_flags pool) rest_bytes members_in (IsRest class_flags pool)
+rest_reads : (class_flags : ℕ) (pool : Slots) → Reads (members_at class_flags pool) rest_bytes members_in (IsRest class_flags pool)
 unfolding members_at
-rest_reads class_flags pool = first (fields_read class_flags pool) (λ fields. first (methods_read class_flags pool) (λ methods. skip_behind pool (two fields methods)))
+rest_reads class_flags pool = first (fields_read class_flags pool) (λ fields. first (methods_read class_flags pool) (λ methods. skip_after pool (two fields methods)))
 
--- ---- all behind the version
+-- ---- all after the version
 
-abbrev pub a_file : Numbers → Places → ClassHead → List Member × List Member → ClassFile
+abbrev pub a_file : Numbers → Slots → ClassHead → List Member × List Member → ClassFile
 a_file version pool head members =
     record {
       minor = version.0;
@@ -252,18 +252,18 @@ a_file version pool head members =
       methods = members.1;
     }
 
-abbrev pub behind_version : Numbers → List ℕ → Result (ClassFile × List ℕ) ReadRefusal
-behind_version version bytes = pool_at bytes >>= λ pool. class_head_at pool.0 pool.1 >>= λ head. members_at head.0.flags pool.0 head.1 >>= λ members. Ok (a_file version pool.0 head.0 members.0, members.1)
+abbrev pub after_version : Numbers → List ℕ → Result (ClassFile × List ℕ) ReadRefusal
+after_version version bytes = pool_at bytes >>= λ pool. class_head_at pool.0 pool.1 >>= λ head. members_at head.0.flags pool.0 head.1 >>= λ members. Ok (a_file version pool.0 head.0 members.0, members.1)
 
-abbrev pub Behind : Type 0
-Behind = Places × (ClassHead × Rest)
+abbrev pub Suffix : Type 0
+Suffix = Slots × (ClassHead × Rest)
 
-abbrev pub behind_bytes : Behind → List ℕ
-behind_bytes p = pool_bytes p.0 ++ (class_head_bytes p.1.0 ++ rest_bytes p.1.1)
+abbrev pub after_bytes : Suffix → List ℕ
+after_bytes p = pool_bytes p.0 ++ (class_head_bytes p.1.0 ++ rest_bytes p.1.1)
 
-abbrev pub IsBehind : Behind → Type 0
-IsBehind p = IsPool p.0 × (IsClassHead p.0 p.1.0 × IsRest p.1.0.flags p.0 p.1.1)
+abbrev pub IsAfter : Suffix → Type 0
+IsAfter p = IsPool p.0 × (IsClassHead p.0 p.1.0 × IsRest p.1.0.flags p.0 p.1.1)
 
-pub behind_reads : (version : Numbers) → Reads (behind_version version) behind_bytes (λ p. a_file version p.0 p.1.0 (members_in p.1.1)) IsBehind
-behind_reads version =
+pub after_reads : (version : Numbers) → Reads (after_version version) after_bytes (λ p. a_file version p.0 p.1.0 (members_in p.1.1)) IsAfter
+after_reads version =
     first pool_reads (λ pool. first (class_head_reads pool) (λ head. last (rest_reads head.flags pool) (λ members. a_file version pool head members)))

@@ -5,7 +5,7 @@ use Rattle.std.specs.List.{AllByRecursion}
 use Rattle.std.proofs.lemmas.Bool.{eqb-true}
 use Rattle.std.proofs.lemmas.List.{append-nil, nil_from_length, map-id}
 use Rattle.class_pool.proofs.Steps.{IsBytes, Takes}
-use Rattle.class_pool.specs.Pool.{Places}
+use Rattle.class_pool.specs.Pool.{Slots}
 use Rattle.class_file.specs.declared.record.CodeAttr.{CodeAttr}
 use Rattle.class_file.specs.declared.record.HandlerRow.{HandlerRow}
 use Rattle.class_file.specs.declared.refusal.ReadRefusal.{ReadRefusal}
@@ -15,17 +15,17 @@ use Rattle.class_file.specs.Relation.{FitsU2, FitsHandler, FitsCode, IsRegularCo
 use Rattle.class_file.specs.Rules.{is_code_size, is_handler}
 use Rattle.class_file.specs.Reading.{◌>>=◌, u2_at, u4_at, slice_at}
 use Rattle.class_file.specs.ReadingMembers.{info_at, skip_all_at, handler_at, handlers_at, code_bytes_at, code_parts, as_shape, code_at}
-use Rattle.class_file.proofs.Steps.{bind_then, bind_fails, ok_is, no_failure, then_ok, under, is_fault, IsPartFault, passes, IsBytes-front, IsBytes-behind}
+use Rattle.class_file.proofs.Steps.{bind_then, bind_fails, ok_is, no_failure, then_ok, under, is_fault, IsPartFault, passes, IsBytes-prefix, IsBytes-after}
 use Rattle.class_file.proofs.Parts.{Taken, Reads, itself, u2_reads, u4_reads, slice_reads, first, tested, last_tested, alike, reshaped, test_first}
 use Rattle.class_file.proofs.Lists.{list_reads, pushed, split, merged}
-use Rattle.class_file.proofs.Attributes.{sized, info_reads, skip_behind}
+use Rattle.class_file.proofs.Attributes.{sized, info_reads, skip_after}
 
 -- ---- the exception table
 
 abbrev row : ℕ → ℕ → ℕ → ℕ → HandlerRow
 row start end target catch_type = record { start = start; end = end; target = target; catch_type = catch_type }
 
-handler_reads : (pool : Places) (size : ℕ) → Reads (handler_at pool size) handler_bytes itself (λ r. FitsHandler r × IsTrue (is_handler pool size r))
+handler_reads : (pool : Slots) (size : ℕ) → Reads (handler_at pool size) handler_bytes itself (λ r. FitsHandler r × IsTrue (is_handler pool size r))
 unfolding handler_at
 handler_reads pool size =
     reshaped
@@ -35,10 +35,10 @@ handler_reads pool size =
     (λ r. (r.start, (r.end, (r.target, r.catch_type))))
     (λ r good. (refl, refl, (good.0.start, (good.0.end, (good.0.target, (good.0.catch_type, good.1))))))
 
-abbrev AreHandlers : Places → ℕ → List HandlerRow → Type 0
+abbrev AreHandlers : Slots → ℕ → List HandlerRow → Type 0
 AreHandlers pool size rows = FitsU2 (length rows) × AllByRecursion FitsHandler rows × AllByRecursion (λ r. IsTrue (is_handler pool size r)) rows
 
-handlers_read : (pool : Places) (size : ℕ) → Reads (handlers_at pool size) (counted handler_bytes) itself (AreHandlers pool size)
+handlers_read : (pool : Slots) (size : ℕ) → Reads (handlers_at pool size) (counted handler_bytes) itself (AreHandlers pool size)
 unfolding handlers_at
 handlers_read pool size =
     reshaped (list_reads (λ earlier. handler_reads pool size)) (λ rows. rows)
@@ -65,8 +65,8 @@ code_bytes_read =
 abbrev code_record : ℕ → ℕ → List ℕ → List HandlerRow → CodeAttr
 code_record max_stack max_locals code handlers = record { max_stack = max_stack; max_locals = max_locals; code = code; handlers = handlers }
 
--- the parts, and what stands behind them
-abbrev parts_at : Places → List ℕ → Result (CodeAttr × List ℕ) ReadRefusal
+-- the parts, and what follows them
+abbrev parts_at : Slots → List ℕ → Result (CodeAttr × List ℕ) ReadRefusal
 parts_at pool bytes =
     u2_at bytes >>= λ max_stack. u2_at max_stack.1 >>= λ max_locals. code_bytes_at max_locals.1 >>= λ code. handlers_at pool (length code.0) code.1 >>= λ handlers. skip_all_at pool handlers.1 >>= λ rest.
     Ok (code_record max_stack.0 max_locals.0 code.0 handlers.0, rest)
@@ -80,13 +80,13 @@ inside_bytes p = code_info p.0 p.1
 abbrev pub code_of : Inside → CodeAttr
 code_of p = p.0
 
-abbrev pub IsInside : Places → Inside → Type 0
+abbrev pub IsInside : Slots → Inside → Type 0
 IsInside pool p = FitsCode p.0 p.1 × IsRegularCode pool p.0 p.1
 
-parts_read : (pool : Places) → Reads (parts_at pool) inside_bytes code_of (IsInside pool)
+parts_read : (pool : Slots) → Reads (parts_at pool) inside_bytes code_of (IsInside pool)
 parts_read pool =
     reshaped
-    (first u2_reads (λ max_stack. first u2_reads (λ max_locals. first code_bytes_read (λ code. first (handlers_read pool (length code)) (λ handlers. skip_behind pool (code_record max_stack max_locals code handlers))))))
+    (first u2_reads (λ max_stack. first u2_reads (λ max_locals. first code_bytes_read (λ code. first (handlers_read pool (length code)) (λ handlers. skip_after pool (code_record max_stack max_locals code handlers))))))
     (λ p. (code_record p.0 p.1.0 p.1.1.0 p.1.1.1.0, p.1.1.1.1))
     (λ p good. (
       ap (λ (t : List ℕ). u2 p.0 ++ (u2 p.1.0 ++ t)) (append_assoc (u4 (length p.1.1.0)) p.1.1.0 (counted handler_bytes p.1.1.1.0 ++ counted attribute_bytes p.1.1.1.1)),
@@ -103,23 +103,23 @@ parts_read pool =
       (good.0.max_stack, (good.0.max_locals, ((good.0.code, good.1.size), ((good.0.handlers, good.0.rows, good.1.handlers), (good.0.inner_count, good.0.inner_fit, good.1.inner_names))))),
     ))
 
--- nothing stands behind the parts
+-- nothing follows the parts
 abbrev ended : CodeAttr × List ℕ → Result CodeAttr ReadRefusal
 ended x = cond (eqb (length x.1) 0) (Ok x.0) (Err BadShape)
 
-parts_end : (pool : Places) (bytes : List ℕ) → code_parts pool bytes ≡ (parts_at pool bytes >>= ended)
+parts_end : (pool : Slots) (bytes : List ℕ) → code_parts pool bytes ≡ (parts_at pool bytes >>= ended)
 unfolding code_parts
 parts_end pool bytes =
     under (u2_at bytes) _ _ _ (λ max_stack. under (u2_at max_stack.1) _ _ _ (λ max_locals. under (code_bytes_at max_locals.1) _ _ _ (λ code. under (handlers_at pool (length code.0) code.1) _ _ _ (λ handlers.
     under (skip_all_at pool handlers.1) _ _ _ (λ rest. refl)))))
 
-record Fills (pool : Places) (bytes : List ℕ) (code : CodeAttr) : Type 0 where
+record Fills (pool : Slots) (bytes : List ℕ) (code : CodeAttr) : Type 0 where
   inside : Inside
-  spelled : bytes ≡ inside_bytes inside
+  encoded : bytes ≡ inside_bytes inside
   good : IsInside pool inside
   code_is : code_of inside ≡ code
 
-parts_fill : (pool : Places) (bytes : List ℕ) (code : CodeAttr) → IsBytes bytes → code_parts pool bytes ≡ Ok code → Fills pool bytes code
+parts_fill : (pool : Slots) (bytes : List ℕ) (code : CodeAttr) → IsBytes bytes → code_parts pool bytes ≡ Ok code → Fills pool bytes code
 parts_fill pool bytes code fits e =
     bind_then (parts_at pool bytes) ended code (sym (parts_end pool bytes) ∙ e) (λ x at_x e_code.
     let g = passes (eqb (length x.1) 0) x.0 code BadShape e_code in
@@ -127,17 +127,17 @@ parts_fill pool bytes code fits e =
     let none : x.1 ≡ [] = nil_from_length x.1 (eqb-true _ _ g.0) in
     record {
       inside = t.part;
-      spelled = t.takes.parts ∙ ap (λ (rest : List ℕ). inside_bytes t.part ++ rest) none ∙ append-nil (inside_bytes t.part);
+      encoded = t.takes.parts ∙ ap (λ (rest : List ℕ). inside_bytes t.part ++ rest) none ∙ append-nil (inside_bytes t.part);
       good = t.good;
       code_is = t.value_is ∙ g.1;
     })
 
-parts_again : (pool : Places) (inside : Inside) → IsInside pool inside → code_parts pool (inside_bytes inside) ≡ Ok (code_of inside)
+parts_again : (pool : Slots) (inside : Inside) → IsInside pool inside → code_parts pool (inside_bytes inside) ≡ Ok (code_of inside)
 parts_again pool inside good =
     parts_end pool (inside_bytes inside)
     ∙ then_ok ended (Ok (code_of inside)) (ap (parts_at pool) (sym (append-nil (inside_bytes inside))) ∙ (parts_read pool).again inside [] good) refl
 
--- ---- the attribute behind its name
+-- ---- the attribute after its name
 
 shape_ok : {A : Type 0} (r : Result A ReadRefusal) (x : A) → as_shape r ≡ Ok x → r ≡ Ok x
 shape_ok (Ok y) x e = e
@@ -150,14 +150,14 @@ shape_fails {A = A} (Err d) why e = is_fault {A = A} BadShape why tt e
 abbrev pub coded_bytes : Inside → List ℕ
 coded_bytes p = sized (inside_bytes p)
 
-abbrev pub IsCoded : Places → Inside → Type 0
+abbrev pub IsCoded : Slots → Inside → Type 0
 IsCoded pool p = (length (inside_bytes p) < 2 ^ 32) × IsInside pool p
 
--- the bytes behind a length are some of all
+-- the bytes after a length are some of all
 info_fits : (bytes info rest : List ℕ) → IsBytes bytes → bytes ≡ sized info ++ rest → IsBytes info
-info_fits bytes info rest fits e = IsBytes-behind (u4 (length info)) info (IsBytes-front (sized info) rest (subst IsBytes e fits))
+info_fits bytes info rest fits e = IsBytes-after (u4 (length info)) info (IsBytes-prefix (sized info) rest (subst IsBytes e fits))
 
-code_made : (pool : Places) (bytes : List ℕ) (info : List ℕ × List ℕ) (code : CodeAttr) → IsBytes bytes → info_at bytes ≡ Ok info → code_parts pool info.0 ≡ Ok code → Taken coded_bytes code_of (IsCoded pool) bytes (code, info.1)
+code_made : (pool : Slots) (bytes : List ℕ) (info : List ℕ × List ℕ) (code : CodeAttr) → IsBytes bytes → info_at bytes ≡ Ok info → code_parts pool info.0 ≡ Ok code → Taken coded_bytes code_of (IsCoded pool) bytes (code, info.1)
 code_made pool bytes info code fits at_info e =
     let t = info_reads.taken bytes info fits at_info in
     let takes : Takes bytes (sized info.0) info.1 = subst (λ (i : List ℕ). Takes bytes (sized i) info.1) t.value_is t.takes in
@@ -165,12 +165,12 @@ code_made pool bytes info code fits at_info e =
     let f = parts_fill pool info.0 code (info_fits bytes info.0 info.1 fits takes.parts) e in
     record {
       part = f.inside;
-      takes = subst (λ (i : List ℕ). Takes bytes (sized i) info.1) f.spelled takes;
-      good = (subst (λ (i : List ℕ). length i < 2 ^ 32) f.spelled short, f.good);
+      takes = subst (λ (i : List ℕ). Takes bytes (sized i) info.1) f.encoded takes;
+      good = (subst (λ (i : List ℕ). length i < 2 ^ 32) f.encoded short, f.good);
       value_is = f.code_is;
     }
 
-pub code_reads : (pool : Places) → Reads (code_at pool) coded_bytes code_of (IsCoded pool)
+pub code_reads : (pool : Slots) → Reads (code_at pool) coded_bytes code_of (IsCoded pool)
 unfolding code_at
 code_reads pool =
     record {

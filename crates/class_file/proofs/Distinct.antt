@@ -3,7 +3,7 @@ use Rattle.std.proofs.Common.{◌≡◌, false, ◌||◌, List, [], ◌∷◌, �
 use Rattle.std.specs.List.{AllByRecursion, IsDistinct}
 use Rattle.std.proofs.lemmas.Bool.{or_parts, or_from}
 use Rattle.std.proofs.lemmas.List.Folds.{list_any-append}
-use Rattle.class_pool.specs.Pool.{Places}
+use Rattle.class_pool.specs.Pool.{Slots}
 use Rattle.class_file.specs.declared.head.Head.{Head}
 use Rattle.class_file.specs.declared.record.Member.{Member}
 use Rattle.class_file.specs.Layout.{MemberLayout, head_of, member_of}
@@ -23,19 +23,19 @@ combined : {X : Type 0} (P Q R : X → Type 0) (xs : List X) → ((x : X) → Q 
 combined P Q R [] says q r = tt
 combined P Q R (x ∷ xs) says q r = (says x q.0 r.0, combined P Q R xs says q.1 r.1)
 
-module _ (pool : Places) where
-  pub one_behind : (earlier : List Member) (m : Member) (head : Head) → is_declared pool (earlier ++ m ∷ []) head ≡ (is_declared pool earlier head || (is_same_member pool (head_in m) head || false))
+module _ (pool : Slots) where
+  pub one_after : (earlier : List Member) (m : Member) (head : Head) → is_declared pool (earlier ++ m ∷ []) head ≡ (is_declared pool earlier head || (is_same_member pool (head_in m) head || false))
   unfolding is_declared
-  one_behind earlier m head = list_any-append (λ other. is_same_member pool (head_in other) head) earlier (m ∷ [])
+  one_after earlier m head = list_any-append (λ other. is_same_member pool (head_in other) head) earlier (m ∷ [])
 
   new_of_both : (earlier : List Member) (m : Member) (head : Head) → is_declared pool (earlier ++ m ∷ []) head ≡ false → (is_declared pool earlier head ≡ false) × (is_same_member pool (head_in m) head ≡ false)
   new_of_both earlier m head e =
-      let p = or_parts (is_declared pool earlier head) (is_same_member pool (head_in m) head || false) (sym (one_behind earlier m head) ∙ e) in
+      let p = or_parts (is_declared pool earlier head) (is_same_member pool (head_in m) head || false) (sym (one_after earlier m head) ∙ e) in
       (p.0, (or_parts (is_same_member pool (head_in m) head) false p.1).0)
 
   both_new : (earlier : List Member) (m : Member) (head : Head) → is_declared pool earlier head ≡ false → is_same_member pool (head_in m) head ≡ false → is_declared pool (earlier ++ m ∷ []) head ≡ false
   both_new earlier m head old other =
-      one_behind earlier m head ∙ or_from (is_declared pool earlier head) (is_same_member pool (head_in m) head || false) old (or_from (is_same_member pool (head_in m) head) false other refl)
+      one_after earlier m head ∙ or_from (is_declared pool earlier head) (is_same_member pool (head_in m) head || false) old (or_from (is_same_member pool (head_in m) head) false other refl)
 
   abbrev pub IsNew : List Member → MemberLayout → Type 0
   IsNew earlier m = is_declared pool earlier (head_of m) ≡ false

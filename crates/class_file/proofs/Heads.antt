@@ -1,10 +1,10 @@
--- What stands in front of the attributes of a member, by what a table of the texts says.
+-- What stands before the attributes of a member, by what a table of the texts says.
 use Rattle.std.proofs.Common.{◌≡◌, ℕ, Bool, true, false, cond, not, ◌&&◌, List, Option, Some, None, Result, Ok, Err, refl, sym, ap, subst}
 use Rattle.std.specs.Prelude.{IsSome, is_some, option_map, option_and_then}
 use Rattle.std.proofs.lemmas.Bool.{true≢false, false≢true}
 use Rattle.class_pool.specs.declared.descriptor.Kind.{Kind}
 use Rattle.class_pool.specs.declared.descriptor.Descriptor.{Descriptor}
-use Rattle.class_pool.specs.Pool.{Places, utf8_at, is_utf8_at}
+use Rattle.class_pool.specs.Pool.{Slots, utf8_at, is_utf8_at}
 use Rattle.class_pool.specs.DescriptorReading.{field_of, method_of}
 use Rattle.class_file.specs.declared.head.Head.{Head}
 use Rattle.class_file.specs.declared.record.Member.{Member}
@@ -18,23 +18,23 @@ use Rattle.class_file.proofs.Steps.{bind_then, ok_is, passes, then_ok}
 
 -- ---- texts
 
-text_is : (pool : Places) (bytes : List ℕ) (x : ℕ × List ℕ) → text_at pool bytes ≡ Ok x → IsSome (utf8_at pool x.0)
+text_is : (pool : Slots) (bytes : List ℕ) (x : ℕ × List ℕ) → text_at pool bytes ≡ Ok x → IsSome (utf8_at pool x.0)
 unfolding text_at
 text_is pool bytes x e =
     bind_then (u2_at bytes) (λ index. cond (is_utf8_at pool index.0) (Ok index) (Err BadShape)) x e (λ index from then.
     let p = passes (is_utf8_at pool index.0) index x BadShape then in
     subst (λ (y : ℕ × List ℕ). IsSome (utf8_at pool y.0)) p.1 p.0)
 
-abbrev HasTexts : Places → Head → Type 0
+abbrev HasTexts : Slots → Head → Type 0
 HasTexts pool head = IsSome (utf8_at pool head.name) × IsSome (utf8_at pool head.descriptor)
 
 -- the name and the descriptor of a head that was read are texts
-pub head_texts : (pool : Places) (bytes : List ℕ) (head : Head) (rest : List ℕ) → head_at pool bytes ≡ Ok (head, rest) → IsSome (utf8_at pool head.name) × IsSome (utf8_at pool head.descriptor)
+pub head_texts : (pool : Slots) (bytes : List ℕ) (head : Head) (rest : List ℕ) → head_at pool bytes ≡ Ok (head, rest) → IsSome (utf8_at pool head.name) × IsSome (utf8_at pool head.descriptor)
 unfolding head_at
 head_texts pool bytes head rest e =
     bind_then (u2_at bytes) (λ flags. text_at pool flags.1 >>= λ name. text_at pool name.1 >>= λ descriptor. Ok (of flags.0 name.0 descriptor.0, descriptor.1)) (head, rest) e (λ flags from_flags then.
-    bind_then (text_at pool flags.1) (λ name. text_at pool name.1 >>= λ descriptor. Ok (of flags.0 name.0 descriptor.0, descriptor.1)) (head, rest) then (λ name from_name behind.
-    bind_then (text_at pool name.1) (λ descriptor. Ok (of flags.0 name.0 descriptor.0, descriptor.1)) (head, rest) behind (λ descriptor from_descriptor last.
+    bind_then (text_at pool flags.1) (λ name. text_at pool name.1 >>= λ descriptor. Ok (of flags.0 name.0 descriptor.0, descriptor.1)) (head, rest) then (λ name from_name suffix.
+    bind_then (text_at pool name.1) (λ descriptor. Ok (of flags.0 name.0 descriptor.0, descriptor.1)) (head, rest) suffix (λ descriptor from_descriptor last.
     subst (λ (y : Head × List ℕ). HasTexts pool y.0) (ok_is (of flags.0 name.0 descriptor.0, descriptor.1) (head, rest) last) (text_is pool flags.1 name from_name, text_is pool name.1 descriptor from_descriptor))))
   where
     of : ℕ → ℕ → ℕ → Head
@@ -64,10 +64,10 @@ kept fits declared x y e h = rw (e, h) refl
 
 -- ---- fields
 
-abbrev field_in : Places → Head → Option Kind
+abbrev field_in : Slots → Head → Option Kind
 field_in pool head = option_and_then field_of (utf8_at pool head.descriptor)
 
-module _ (class_flags : ℕ) (pool : Places) (earlier : List Member) (bytes : List ℕ) (head : Head) (rest : List ℕ) (read : head_at pool bytes ≡ Ok (head, rest)) where
+module _ (class_flags : ℕ) (pool : Slots) (earlier : List Member) (bytes : List ℕ) (head : Head) (rest : List ℕ) (read : head_at pool bytes ≡ Ok (head, rest)) where
   abbrev judged : Bool → Result (Head × List ℕ) ReadRefusal
   judged fits = cond (fits && not (is_declared pool earlier head)) (Ok (head, rest)) (Err BadShape)
 

@@ -13,8 +13,8 @@ pub mod Heads
 pub mod Members
 pub mod ClassParts
 pub mod Body
-pub mod FrontsReaders
+pub mod PrefixesReaders
 pub mod Whole
-pub mod Fronts
+pub mod Prefixes
 pub mod MainForm
 pub mod Answers

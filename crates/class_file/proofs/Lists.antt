@@ -15,7 +15,7 @@ abbrev pub AllFrom : {S L : Type 0} → (S → L → Type 0) → (S → L → S)
 AllFrom Good next s [] = Unit {0}
 AllFrom Good next s (part ∷ parts) = Good s part × AllFrom Good next (next s part) parts
 
--- the state behind all parts
+-- the state after all parts
 abbrev pub after : {S L : Type 0} → (S → L → S) → S → List L → S
 after next s [] = s
 after next s (part ∷ parts) = after next (next s part) parts
@@ -70,7 +70,7 @@ module _ {S L : Type 0} {step : S → List ℕ → Result (S × List ℕ) ReadRe
       (λ parts. (length parts, parts))
       (λ parts good. (refl, refl, (good.0, (refl, good.1))))
 
--- the value of one more part behind the earlier ones
+-- the value of one more part after the earlier ones
 abbrev pub pushed : {A L : Type 0} → (L → A) → List A → L → List A
 pushed value earlier part = earlier ++ value part ∷ []
 

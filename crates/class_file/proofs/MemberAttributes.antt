@@ -8,7 +8,7 @@ use Rattle.std.proofs.lemmas.List.{append-nil, take_all}
 use Rattle.byteorder.specs.Endian.{big_number}
 use Rattle.byteorder.specs.Numbers.{big_number-reads_back, big_from-lt}
 use Rattle.class_pool.proofs.Steps.{back_2, true_false}
-use Rattle.class_pool.specs.Pool.{Places, utf8_at}
+use Rattle.class_pool.specs.Pool.{Slots, utf8_at}
 use Rattle.class_file.specs.declared.record.CodeAttr.{CodeAttr}
 use Rattle.class_file.specs.declared.refusal.ReadRefusal.{ReadRefusal}
 use Rattle.class_file.specs.declared.refusal.ReadRefusal.TheVariants.{BadShape}
@@ -17,13 +17,13 @@ use Rattle.class_file.specs.Relation.{FitsU2, FitsMemberAttribute, IsFieldAttrib
 use Rattle.class_file.specs.Rules.{is_named}
 use Rattle.class_file.specs.Reading.{◌>>=◌}
 use Rattle.class_file.specs.ReadingMembers.{text_at, info_at, value_at, field_attribute_at, method_attribute_at, field_attributes_at, method_attributes_at}
-use Rattle.class_file.proofs.Steps.{under, IsBytes-behind}
+use Rattle.class_file.proofs.Steps.{under, IsBytes-after}
 use Rattle.class_file.proofs.Parts.{Reads, itself, first, last, tested, alike, reshaped, reshaped_bytes, test_first, on_either, IsWay, one_of, barred}
 use Rattle.class_file.proofs.Lists.{AllFrom, after, counted_reads, split_off, merged_with, unzipped, zipped}
 use Rattle.class_file.proofs.Attributes.{sized, text_reads, info_reads}
 use Rattle.class_file.proofs.Codes.{Inside, code_of, coded_bytes, code_reads}
 
--- ---- ConstantValue behind its name
+-- ---- ConstantValue after its name
 
 value_reads : Reads value_at (λ v. sized (u2 v)) itself FitsU2
 unfolding value_at
@@ -32,7 +32,7 @@ value_reads =
     (reshaped_bytes (last (tested info_reads (λ info. eqb (length info) 2) BadShape tt) (λ info. big_number 2 info)) (λ info. big_number 2 info)
     (λ info fits good.
     let two : length info ≡ 2 = eqb-true _ _ good.1 in
-    let are = IsBytes-behind (u4 (length info)) info fits in
+    let are = IsBytes-after (u4 (length info)) info fits in
     let back : u2 (big_number 2 info) ≡ info = back_2 info (omega (arith, two)) are ∙ take_all 2 info (omega (arith, two)) in
     (ap sized (sym back), refl, big_from-lt 0 2 info are))
     (λ v. u2 v)
@@ -55,7 +55,7 @@ other_said name (Some other) is = (refl, is)
 
 -- ---- an attribute that is read by its name, or skipped
 
-module _ {X P : Type 0} {read : List ℕ → Result (X × List ℕ) ReadRefusal} {text : P → List ℕ} {value : P → X} {Good : P → Type 0} (name : List ℕ) (pool : Places) (full : Bool) (found : Option X) (one : Reads read text value Good) where
+module _ {X P : Type 0} {read : List ℕ → Result (X × List ℕ) ReadRefusal} {text : P → List ℕ} {value : P → X} {Good : P → Type 0} (name : List ℕ) (pool : Slots) (full : Bool) (found : Option X) (one : Reads read text value Good) where
   abbrev attribute_at : List ℕ → Result (Option X × List ℕ) ReadRefusal
   attribute_at bytes =
       text_at pool bytes >>= λ index. cond (is_named name (utf8_at pool index.0)) (cond full (Err BadShape) (read index.1 >>= λ v. Ok (Some v.0, v.1))) (info_at index.1 >>= λ info. Ok (found, info.1))
@@ -190,20 +190,20 @@ field_from (Coded name code inner) = (0, inr [])
 field_from (Valued name value) = (name, inl value)
 field_from (Skipped attribute) = (attribute.name, inr attribute.info)
 
-abbrev IsGoodField : Places → Option ℕ → MemberAttribute → Type 0
+abbrev IsGoodField : Slots → Option ℕ → MemberAttribute → Type 0
 IsGoodField pool found a = (FitsMemberAttribute a × IsFieldAttribute pool a) × IsFree false found (value_of a)
 
-abbrev IsFieldPart : Places → Option ℕ → FieldPart → Type 0
+abbrev IsFieldPart : Slots → Option ℕ → FieldPart → Type 0
 IsFieldPart pool found p = IsRead constant_value pool (is_some found) found value_reads p
 
-field_goes : (pool : Places) (found : Option ℕ) (name : ℕ) (way : ℕ ⊎ List ℕ) → IsFieldPart pool found (name, way)
+field_goes : (pool : Slots) (found : Option ℕ) (name : ℕ) (way : ℕ ⊎ List ℕ) → IsFieldPart pool found (name, way)
     → (u2 name ++ on_either (λ v. sized (u2 v)) sized way ≡ bytes_of (field_to (name, way))) × (latest found (value_of (field_to (name, way))) ≡ on_either (λ v. Some v) (λ info. found) way) × IsGoodField pool found (field_to (name, way))
 field_goes pool found name (inl value) good =
     (refl, refl, ((record { attribute = record { name = good.0.0; info = omega arith }; inside = good.1.1.1 }, good.1.0), good.1.1.0))
 field_goes pool found name (inr info) good =
     (refl, refl, ((record { attribute = record { name = good.0.0; info = good.1.1 }; inside = tt }, other_name constant_value (utf8_at pool name) good.0.1 good.1.0), tt))
 
-field_comes : (pool : Places) (found : Option ℕ) (a : MemberAttribute) → IsGoodField pool found a
+field_comes : (pool : Slots) (found : Option ℕ) (a : MemberAttribute) → IsGoodField pool found a
     → (bytes_of a ≡ u2 (field_from a).0 ++ on_either (λ v. sized (u2 v)) sized (field_from a).1) × (on_either (λ v. Some v) (λ info. found) (field_from a).1 ≡ latest found (value_of a)) × IsFieldPart pool found (field_from a)
 field_comes pool found (Coded name code inner) good = absurd good.0.1
 field_comes pool found (Valued name value) good =
@@ -212,15 +212,15 @@ field_comes pool found (Skipped attribute) good =
     let other = other_said constant_value (utf8_at pool attribute.name) good.0.1 in
     (refl, refl, ((good.0.0.attribute.name, other.0), (other.1, good.0.0.attribute.info)))
 
-field_attribute_reads : (pool : Places) (found : Option ℕ) → Reads (field_attribute_at pool found) bytes_of (λ a. latest found (value_of a)) (IsGoodField pool found)
+field_attribute_reads : (pool : Slots) (found : Option ℕ) → Reads (field_attribute_at pool found) bytes_of (λ a. latest found (value_of a)) (IsGoodField pool found)
 unfolding field_attribute_at
 field_attribute_reads pool found =
     reshaped (attribute_reads constant_value pool (is_some found) found value_reads) field_to (λ p good. field_goes pool found p.0 p.1 good) field_from (λ a good. field_comes pool found a good)
 
-abbrev pub AreFieldAttributes : Places → List MemberAttribute → Type 0
+abbrev pub AreFieldAttributes : Slots → List MemberAttribute → Type 0
 AreFieldAttributes pool attributes = FitsU2 (length attributes) × AllByRecursion FitsMemberAttribute attributes × AllByRecursion (IsFieldAttribute pool) attributes × (length (values_in attributes) ≤ 1)
 
-pub field_attributes_read : (pool : Places) → Reads (field_attributes_at pool) (counted bytes_of) (λ attributes. first_item (values_in attributes)) (AreFieldAttributes pool)
+pub field_attributes_read : (pool : Slots) → Reads (field_attributes_at pool) (counted bytes_of) (λ attributes. first_item (values_in attributes)) (AreFieldAttributes pool)
 unfolding field_attributes_at
 field_attributes_read pool =
     reshaped (counted_reads (field_attribute_reads pool) None) (λ attributes. attributes)
@@ -256,20 +256,20 @@ method_from (Coded name code inner) = (name, inl (code, inner))
 method_from (Valued name value) = (0, inr [])
 method_from (Skipped attribute) = (attribute.name, inr attribute.info)
 
-abbrev IsGoodMethod : Places → Bool → Option CodeAttr → MemberAttribute → Type 0
+abbrev IsGoodMethod : Slots → Bool → Option CodeAttr → MemberAttribute → Type 0
 IsGoodMethod pool abstract found a = (FitsMemberAttribute a × IsMethodAttribute pool a) × IsFree abstract found (code_in a)
 
-abbrev IsMethodPart : Places → Bool → Option CodeAttr → MethodPart → Type 0
+abbrev IsMethodPart : Slots → Bool → Option CodeAttr → MethodPart → Type 0
 IsMethodPart pool abstract found p = IsRead code_name pool (abstract || is_some found) found (code_reads pool) p
 
-method_goes : (pool : Places) (abstract : Bool) (found : Option CodeAttr) (name : ℕ) (way : Inside ⊎ List ℕ) → IsMethodPart pool abstract found (name, way)
+method_goes : (pool : Slots) (abstract : Bool) (found : Option CodeAttr) (name : ℕ) (way : Inside ⊎ List ℕ) → IsMethodPart pool abstract found (name, way)
     → (u2 name ++ on_either coded_bytes sized way ≡ bytes_of (method_to (name, way))) × (latest found (code_in (method_to (name, way))) ≡ on_either (λ inside. Some (code_of inside)) (λ info. found) way) × IsGoodMethod pool abstract found (method_to (name, way))
 method_goes pool abstract found name (inl inside) good =
     (refl, refl, ((record { attribute = record { name = good.0.0; info = good.1.1.1.0 }; inside = good.1.1.1.1.0 }, (good.1.0, good.1.1.1.1.1)), good.1.1.0))
 method_goes pool abstract found name (inr info) good =
     (refl, refl, ((record { attribute = record { name = good.0.0; info = good.1.1 }; inside = tt }, other_name code_name (utf8_at pool name) good.0.1 good.1.0), tt))
 
-method_comes : (pool : Places) (abstract : Bool) (found : Option CodeAttr) (a : MemberAttribute) → IsGoodMethod pool abstract found a
+method_comes : (pool : Slots) (abstract : Bool) (found : Option CodeAttr) (a : MemberAttribute) → IsGoodMethod pool abstract found a
     → (bytes_of a ≡ u2 (method_from a).0 ++ on_either coded_bytes sized (method_from a).1) × (on_either (λ inside. Some (code_of inside)) (λ info. found) (method_from a).1 ≡ latest found (code_in a)) × IsMethodPart pool abstract found (method_from a)
 method_comes pool abstract found (Coded name code inner) good =
     (refl, refl, ((good.0.0.attribute.name, named_some code_name (utf8_at pool name) good.0.1.0), (good.0.1.0, (good.1, (good.0.0.attribute.info, (good.0.0.inside, good.0.1.1))))))
@@ -278,7 +278,7 @@ method_comes pool abstract found (Skipped attribute) good =
     let other = other_said code_name (utf8_at pool attribute.name) good.0.1 in
     (refl, refl, ((good.0.0.attribute.name, other.0), (other.1, good.0.0.attribute.info)))
 
-method_attribute_reads : (pool : Places) (abstract : Bool) (found : Option CodeAttr) → Reads (method_attribute_at pool abstract found) bytes_of (λ a. latest found (code_in a)) (IsGoodMethod pool abstract found)
+method_attribute_reads : (pool : Slots) (abstract : Bool) (found : Option CodeAttr) → Reads (method_attribute_at pool abstract found) bytes_of (λ a. latest found (code_in a)) (IsGoodMethod pool abstract found)
 unfolding method_attribute_at
 method_attribute_reads pool abstract found =
     reshaped (attribute_reads code_name pool (abstract || is_some found) found (code_reads pool)) method_to (λ p good. method_goes pool abstract found p.0 p.1 good) method_from (λ a good. method_comes pool abstract found a good)
@@ -294,10 +294,10 @@ code_one true all is = (omega (arith, is), refl)
 code_one false [] is = absurd (omega (arith, is))
 code_one false (code ∷ all) is = (omega (arith, is), refl)
 
-abbrev pub AreMethodAttributes : Places → Bool → List MemberAttribute → Type 0
+abbrev pub AreMethodAttributes : Slots → Bool → List MemberAttribute → Type 0
 AreMethodAttributes pool abstract attributes = FitsU2 (length attributes) × AllByRecursion FitsMemberAttribute attributes × AllByRecursion (IsMethodAttribute pool) attributes × (length (codes_in attributes) ≡ cond abstract 0 1)
 
-pub method_attributes_read : (pool : Places) (abstract : Bool) → Reads (method_attributes_at pool abstract) (counted bytes_of) (λ attributes. first_item (codes_in attributes)) (AreMethodAttributes pool abstract)
+pub method_attributes_read : (pool : Slots) (abstract : Bool) → Reads (method_attributes_at pool abstract) (counted bytes_of) (λ attributes. first_item (codes_in attributes)) (AreMethodAttributes pool abstract)
 unfolding method_attributes_at
 method_attributes_read pool abstract =
     reshaped (tested (counted_reads (method_attribute_reads pool abstract) None) (λ code. abstract || is_some code) BadShape tt) (λ attributes. attributes)
@@ -326,13 +326,13 @@ method_attributes_read pool abstract =
 
 -- ---- what stands on no field, and on no method
 
-pub no_code : (pool : Places) (attributes : List MemberAttribute) → AllByRecursion (IsFieldAttribute pool) attributes → first_item (codes_in attributes) ≡ None
+pub no_code : (pool : Slots) (attributes : List MemberAttribute) → AllByRecursion (IsFieldAttribute pool) attributes → first_item (codes_in attributes) ≡ None
 no_code pool [] all = refl
 no_code pool (Coded name code inner ∷ attributes) all = absurd all.0
 no_code pool (Valued name value ∷ attributes) all = no_code pool attributes all.1
 no_code pool (Skipped attribute ∷ attributes) all = no_code pool attributes all.1
 
-pub no_value : (pool : Places) (attributes : List MemberAttribute) → AllByRecursion (IsMethodAttribute pool) attributes → first_item (values_in attributes) ≡ None
+pub no_value : (pool : Slots) (attributes : List MemberAttribute) → AllByRecursion (IsMethodAttribute pool) attributes → first_item (values_in attributes) ≡ None
 no_value pool [] all = refl
 no_value pool (Coded name code inner ∷ attributes) all = no_value pool attributes all.1
 no_value pool (Valued name value ∷ attributes) all = absurd all.0

@@ -5,7 +5,7 @@ use Rattle.std.specs.List.{AllByRecursion, IsDistinct}
 use Rattle.std.proofs.lemmas.Bool.{and_parts, and_from, not-true, not_from_false}
 use Rattle.class_pool.specs.declared.descriptor.Kind.{Kind}
 use Rattle.class_pool.specs.declared.descriptor.Descriptor.{Descriptor}
-use Rattle.class_pool.specs.Pool.{Places, utf8_at}
+use Rattle.class_pool.specs.Pool.{Slots, utf8_at}
 use Rattle.class_pool.specs.Descriptors.{IsFieldText, IsMethodText}
 use Rattle.class_pool.specs.DescriptorReading.{field_of, method_of}
 use Rattle.class_pool.proofs.FieldTypes.{field_taken, field_read}
@@ -17,7 +17,7 @@ use Rattle.class_file.specs.declared.refusal.ReadRefusal.{ReadRefusal}
 use Rattle.class_file.specs.declared.refusal.ReadRefusal.TheVariants.{BadShape, BadDescriptor}
 use Rattle.class_file.specs.Layout.{u2, counted, MemberAttribute, MemberLayout, member_bytes, head_of, member_of, codes_in, values_in, first as first_item}
 use Rattle.class_file.specs.Relation.{FitsU2, FitsMember, IsRegularField, IsRegularMethod}
-use Rattle.class_file.specs.Rules.{is_native, is_abstract, has_one_access, fits_interface_field, fits_interface_method, fits_abstract, fits_special_name, fits_constructor, fits_initialiser, fits_places, is_same_member}
+use Rattle.class_file.specs.Rules.{is_native, is_abstract, has_one_access, fits_interface_field, fits_interface_method, fits_abstract, fits_special_name, fits_constructor, fits_initialiser, fits_slots, is_same_member}
 use Rattle.class_file.specs.Reading.{list_at}
 use Rattle.class_file.specs.ReadingMembers.{head_at, described, field_type, method_type, is_declared, is_field_head, is_method_head, field_head_at, method_head_at, field_at, method_at, fields_at, methods_at}
 use Rattle.class_file.proofs.Steps.{no_failure, ok_is, is_fault, IsPartFault}
@@ -35,14 +35,14 @@ head_bytes head = u2 head.flags ++ (u2 head.name ++ u2 head.descriptor)
 abbrev a_head : ℕ → ℕ → ℕ → Head
 a_head flags name descriptor = record { flags = flags; name = name; descriptor = descriptor }
 
-record IsHead (pool : Places) (head : Head) : Type 0 where
+record IsHead (pool : Slots) (head : Head) : Type 0 where
   flags : FitsU2 head.flags
   name : FitsU2 head.name
   name_is : IsSome (utf8_at pool head.name)
   descriptor : FitsU2 head.descriptor
   descriptor_is : IsSome (utf8_at pool head.descriptor)
 
-head_reads : (pool : Places) → Reads (head_at pool) head_bytes itself (IsHead pool)
+head_reads : (pool : Slots) → Reads (head_at pool) head_bytes itself (IsHead pool)
 unfolding head_at
 head_reads pool =
     reshaped (first u2_reads (λ flags. first (text_reads pool) (λ name. last (text_reads pool) (λ descriptor. a_head flags name descriptor)))) (λ p. a_head p.0 p.1.0 p.1.1)
@@ -74,27 +74,27 @@ some_text : (P : List ℕ → Type 0) (found : Option (List ℕ)) → IsSomeAnd 
 some_text P None is = absurd is
 some_text P (Some text) is = refl
 
-type_faults : (pool : Places) (head : Head) (why : ReadRefusal) → field_type pool head.descriptor ≡ Err why → IsPartFault why
+type_faults : (pool : Slots) (head : Head) (why : ReadRefusal) → field_type pool head.descriptor ≡ Err why → IsPartFault why
 unfolding field_type
 type_faults pool head why e = said_fault head.descriptor (option_and_then field_of (utf8_at pool head.descriptor)) why e
 
-method_faults : (pool : Places) (head : Head) (why : ReadRefusal) → method_type pool head.descriptor ≡ Err why → IsPartFault why
+method_faults : (pool : Slots) (head : Head) (why : ReadRefusal) → method_type pool head.descriptor ≡ Err why → IsPartFault why
 unfolding method_type
 method_faults pool head why e = said_fault head.descriptor (option_and_then method_of (utf8_at pool head.descriptor)) why e
 
-field_type_says : (pool : Places) (index : ℕ) (type : Kind) → field_type pool index ≡ Ok type → IsSomeAnd (utf8_at pool index) (λ text. IsFieldText text type)
+field_type_says : (pool : Slots) (index : ℕ) (type : Kind) → field_type pool index ≡ Ok type → IsSomeAnd (utf8_at pool index) (λ text. IsFieldText text type)
 unfolding field_type
 field_type_says pool index type e = text_says field_of IsFieldText field_taken field_read index (utf8_at pool index) type e
 
-says_field_type : (pool : Places) (index : ℕ) (type : Kind) → IsSomeAnd (utf8_at pool index) (λ text. IsFieldText text type) → field_type pool index ≡ Ok type
+says_field_type : (pool : Slots) (index : ℕ) (type : Kind) → IsSomeAnd (utf8_at pool index) (λ text. IsFieldText text type) → field_type pool index ≡ Ok type
 unfolding field_type
 says_field_type pool index type is = says_text field_of IsFieldText field_taken field_read index (utf8_at pool index) type is
 
-method_type_says : (pool : Places) (index : ℕ) (type : Descriptor) → method_type pool index ≡ Ok type → IsSomeAnd (utf8_at pool index) (λ text. IsMethodText text type)
+method_type_says : (pool : Slots) (index : ℕ) (type : Descriptor) → method_type pool index ≡ Ok type → IsSomeAnd (utf8_at pool index) (λ text. IsMethodText text type)
 unfolding method_type
 method_type_says pool index type e = text_says method_of IsMethodText method_taken method_read index (utf8_at pool index) type e
 
-says_method_type : (pool : Places) (index : ℕ) (type : Descriptor) → IsSomeAnd (utf8_at pool index) (λ text. IsMethodText text type) → method_type pool index ≡ Ok type
+says_method_type : (pool : Slots) (index : ℕ) (type : Descriptor) → IsSomeAnd (utf8_at pool index) (λ text. IsMethodText text type) → method_type pool index ≡ Ok type
 unfolding method_type
 says_method_type pool index type is = says_text method_of IsMethodText method_taken method_read index (utf8_at pool index) type is
 
@@ -117,18 +117,18 @@ new_from rules declared rules_hold none = and_from rules (not declared) rules_ho
 
 -- ---- fields
 
-abbrev IsFieldHead : ℕ → Places → List Member → Head → Type 0
+abbrev IsFieldHead : ℕ → Slots → List Member → Head → Type 0
 IsFieldHead class_flags pool earlier head = IsHead pool head × (type : Kind) × (field_type pool head.descriptor ≡ Ok type) × IsTrue (is_field_head class_flags head && not (is_declared pool earlier head))
 
-field_head_reads : (class_flags : ℕ) (pool : Places) (earlier : List Member) → Reads (field_head_at class_flags pool earlier) head_bytes itself (IsFieldHead class_flags pool earlier)
+field_head_reads : (class_flags : ℕ) (pool : Slots) (earlier : List Member) → Reads (field_head_at class_flags pool earlier) head_bytes itself (IsFieldHead class_flags pool earlier)
 unfolding field_head_at
 field_head_reads class_flags pool earlier =
     checked (head_reads pool) (λ head. field_type pool head.descriptor) (type_faults pool) (λ head type. is_field_head class_flags head && not (is_declared pool earlier head)) BadShape tt
 
-abbrev IsField : ℕ → Places → List Member → MemberLayout → Type 0
+abbrev IsField : ℕ → Slots → List Member → MemberLayout → Type 0
 IsField class_flags pool earlier m = (FitsMember m × IsRegularField class_flags pool m) × IsNew pool earlier m
 
-field_made : (class_flags : ℕ) (pool : Places) (earlier : List Member) (head : Head) (attributes : List MemberAttribute) → IsFieldHead class_flags pool earlier head → AreFieldAttributes pool attributes
+field_made : (class_flags : ℕ) (pool : Slots) (earlier : List Member) (head : Head) (attributes : List MemberAttribute) → IsFieldHead class_flags pool earlier head → AreFieldAttributes pool attributes
     → IsField class_flags pool earlier (a_layout head attributes)
 field_made class_flags pool earlier head attributes is are =
     let new = new_parts (is_field_head class_flags head) (is_declared pool earlier head) is.3 in
@@ -140,7 +140,7 @@ field_made class_flags pool earlier head attributes is are =
       new.1,
     )
 
-field_unmade : (class_flags : ℕ) (pool : Places) (earlier : List Member) (m : MemberLayout) → IsField class_flags pool earlier m → IsFieldHead class_flags pool earlier (head_of m) × AreFieldAttributes pool m.attributes
+field_unmade : (class_flags : ℕ) (pool : Slots) (earlier : List Member) (m : MemberLayout) → IsField class_flags pool earlier m → IsFieldHead class_flags pool earlier (head_of m) × AreFieldAttributes pool m.attributes
 field_unmade class_flags pool earlier m good =
     let fits = good.0.0 in
     let rules = good.0.1 in
@@ -150,7 +150,7 @@ field_unmade class_flags pool earlier m good =
     new_from (is_field_head class_flags (head_of m)) (is_declared pool earlier (head_of m)) (and_from (has_one_access m.flags) (fits_interface_field class_flags m.flags) rules.access rules.of_interface) good.1 in
     ((head, rules.type, says_field_type pool m.descriptor rules.type rules.descriptor, test), (fits.count, fits.attributes, rules.attributes, rules.one_value))
 
-field_reads : (class_flags : ℕ) (pool : Places) (earlier : List Member) → Reads (field_at class_flags pool earlier) member_bytes member_of (IsField class_flags pool earlier)
+field_reads : (class_flags : ℕ) (pool : Slots) (earlier : List Member) → Reads (field_at class_flags pool earlier) member_bytes member_of (IsField class_flags pool earlier)
 unfolding field_at
 field_reads class_flags pool earlier =
     reshaped (first (field_head_reads class_flags pool earlier) (λ head. last (field_attributes_read pool) (λ value. a_member head value None))) (λ p. a_layout p.0 p.1)
@@ -162,17 +162,17 @@ field_reads class_flags pool earlier =
 
 -- ---- methods
 
-abbrev IsMethodHead : ℕ → Places → List Member → Head → Type 0
+abbrev IsMethodHead : ℕ → Slots → List Member → Head → Type 0
 IsMethodHead class_flags pool earlier head =
     IsHead pool head × (type : Descriptor) × (method_type pool head.descriptor ≡ Ok type) × IsTrue (is_method_head class_flags pool head type && not (is_declared pool earlier head))
 
-method_head_reads : (class_flags : ℕ) (pool : Places) (earlier : List Member) → Reads (method_head_at class_flags pool earlier) head_bytes itself (IsMethodHead class_flags pool earlier)
+method_head_reads : (class_flags : ℕ) (pool : Slots) (earlier : List Member) → Reads (method_head_at class_flags pool earlier) head_bytes itself (IsMethodHead class_flags pool earlier)
 unfolding method_head_at
 method_head_reads class_flags pool earlier =
     checked (head_reads pool) (λ head. method_type pool head.descriptor) (method_faults pool) (λ head type. is_method_head class_flags pool head type && not (is_declared pool earlier head)) BadShape tt
 
 -- the rules of a method's head, one by one
-record KeepsRules (class_flags : ℕ) (pool : Places) (head : Head) (type : Descriptor) : Type 0 where
+record KeepsRules (class_flags : ℕ) (pool : Slots) (head : Head) (type : Descriptor) : Type 0 where
   access : IsTrue (has_one_access head.flags)
   of_interface : IsTrue (fits_interface_method class_flags pool head)
   not_native : IsTrue (not (is_native head.flags))
@@ -180,9 +180,9 @@ record KeepsRules (class_flags : ℕ) (pool : Places) (head : Head) (type : Desc
   special_name : IsTrue (fits_special_name pool head)
   constructor : IsTrue (fits_constructor pool head type)
   initialiser : IsTrue (fits_initialiser pool head)
-  places : IsTrue (fits_places pool head type)
+  slots : IsTrue (fits_slots pool head type)
 
-rules_kept : (class_flags : ℕ) (pool : Places) (head : Head) (type : Descriptor) → is_method_head class_flags pool head type ≡ true → KeepsRules class_flags pool head type
+rules_kept : (class_flags : ℕ) (pool : Slots) (head : Head) (type : Descriptor) → is_method_head class_flags pool head type ≡ true → KeepsRules class_flags pool head type
 rules_kept class_flags pool head type e =
     let p = and_parts _ _ e in
     let flags = and_parts _ _ p.0 in
@@ -191,17 +191,17 @@ rules_kept class_flags pool head type e =
     let abstract_name = and_parts _ _ names.0 in
     let typed = and_parts _ _ names.1 in
     let last_two = and_parts _ _ typed.1 in
-    record { access = flags.0; of_interface = of_interface.0; not_native = of_interface.1; abstract_flags = abstract_name.0; special_name = abstract_name.1; constructor = typed.0; initialiser = last_two.0; places = last_two.1 }
+    record { access = flags.0; of_interface = of_interface.0; not_native = of_interface.1; abstract_flags = abstract_name.0; special_name = abstract_name.1; constructor = typed.0; initialiser = last_two.0; slots = last_two.1 }
 
-rules_hold : (class_flags : ℕ) (pool : Places) (head : Head) (type : Descriptor) → KeepsRules class_flags pool head type → is_method_head class_flags pool head type ≡ true
+rules_hold : (class_flags : ℕ) (pool : Slots) (head : Head) (type : Descriptor) → KeepsRules class_flags pool head type → is_method_head class_flags pool head type ≡ true
 rules_hold class_flags pool head type keeps =
     and_from _ _ (and_from _ _ keeps.access (and_from _ _ keeps.of_interface keeps.not_native))
-    (and_from _ _ (and_from _ _ keeps.abstract_flags keeps.special_name) (and_from _ _ keeps.constructor (and_from _ _ keeps.initialiser keeps.places)))
+    (and_from _ _ (and_from _ _ keeps.abstract_flags keeps.special_name) (and_from _ _ keeps.constructor (and_from _ _ keeps.initialiser keeps.slots)))
 
-abbrev IsMethod : ℕ → Places → List Member → MemberLayout → Type 0
+abbrev IsMethod : ℕ → Slots → List Member → MemberLayout → Type 0
 IsMethod class_flags pool earlier m = (FitsMember m × IsRegularMethod class_flags pool m) × IsNew pool earlier m
 
-method_made : (class_flags : ℕ) (pool : Places) (earlier : List Member) (head : Head) (attributes : List MemberAttribute) → IsMethodHead class_flags pool earlier head → AreMethodAttributes pool (is_abstract head.flags) attributes
+method_made : (class_flags : ℕ) (pool : Slots) (earlier : List Member) (head : Head) (attributes : List MemberAttribute) → IsMethodHead class_flags pool earlier head → AreMethodAttributes pool (is_abstract head.flags) attributes
     → IsMethod class_flags pool earlier (a_layout head attributes)
 method_made class_flags pool earlier head attributes is are =
     let new = new_parts (is_method_head class_flags pool head is.1) (is_declared pool earlier head) is.3 in
@@ -219,7 +219,7 @@ method_made class_flags pool earlier head attributes is are =
           special_name = keeps.special_name;
           constructor = keeps.constructor;
           initialiser = keeps.initialiser;
-          places = keeps.places;
+          slots = keeps.slots;
           attributes = are.2;
           one_code = are.3;
         },
@@ -227,7 +227,7 @@ method_made class_flags pool earlier head attributes is are =
       new.1,
     )
 
-method_unmade : (class_flags : ℕ) (pool : Places) (earlier : List Member) (m : MemberLayout) → IsMethod class_flags pool earlier m
+method_unmade : (class_flags : ℕ) (pool : Slots) (earlier : List Member) (m : MemberLayout) → IsMethod class_flags pool earlier m
     → IsMethodHead class_flags pool earlier (head_of m) × AreMethodAttributes pool (is_abstract m.flags) m.attributes
 method_unmade class_flags pool earlier m good =
     let fits = good.0.0 in
@@ -243,13 +243,13 @@ method_unmade class_flags pool earlier m good =
       special_name = rules.special_name;
       constructor = rules.constructor;
       initialiser = rules.initialiser;
-      places = rules.places;
+      slots = rules.slots;
     } in
     let test : IsTrue (is_method_head class_flags pool (head_of m) rules.type && not (is_declared pool earlier (head_of m))) =
     new_from (is_method_head class_flags pool (head_of m) rules.type) (is_declared pool earlier (head_of m)) (rules_hold class_flags pool (head_of m) rules.type keeps) good.1 in
     ((head, rules.type, says_method_type pool m.descriptor rules.type rules.descriptor, test), (fits.count, fits.attributes, rules.attributes, rules.one_code))
 
-method_reads : (class_flags : ℕ) (pool : Places) (earlier : List Member) → Reads (method_at class_flags pool earlier) member_bytes member_of (IsMethod class_flags pool earlier)
+method_reads : (class_flags : ℕ) (pool : Slots) (earlier : List Member) → Reads (method_at class_flags pool earlier) member_bytes member_of (IsMethod class_flags pool earlier)
 unfolding method_at
 method_reads class_flags pool earlier =
     reshaped (first (method_head_reads class_flags pool earlier) (λ head. last (method_attributes_read pool (is_abstract head.flags)) (λ code. a_member head None code))) (λ p. a_layout p.0 p.1)
@@ -261,10 +261,10 @@ method_reads class_flags pool earlier =
 
 -- ---- the lists
 
-abbrev AreMembers : Places → (MemberLayout → Type 0) → List MemberLayout → Type 0
+abbrev AreMembers : Slots → (MemberLayout → Type 0) → List MemberLayout → Type 0
 AreMembers pool Regular parts = FitsU2 (length parts) × AllByRecursion FitsMember parts × AllByRecursion Regular parts × IsDistinct (is_same_member pool) (map head_of parts)
 
-members_read : (pool : Places) (Regular : MemberLayout → Type 0) (item : List Member → List ℕ → Result (Member × List ℕ) ReadRefusal)
+members_read : (pool : Slots) (Regular : MemberLayout → Type 0) (item : List Member → List ℕ → Result (Member × List ℕ) ReadRefusal)
     → ((earlier : List Member) → Reads (item earlier) member_bytes member_of (λ m. (FitsMember m × Regular m) × IsNew pool earlier m))
     → Reads (list_at item) (counted member_bytes) (map member_of) (AreMembers pool Regular)
 members_read pool Regular item one =
@@ -277,16 +277,16 @@ members_read pool Regular item one =
     (λ parts good.
     (refl, refl, (good.0, merged_with (λ m. FitsMember m × Regular m) (IsNew pool) (pushed member_of) [] parts (zipped FitsMember Regular parts good.1 good.2) (distinct_new pool parts good.3))))
 
-abbrev pub AreFields : ℕ → Places → List MemberLayout → Type 0
+abbrev pub AreFields : ℕ → Slots → List MemberLayout → Type 0
 AreFields class_flags pool parts = AreMembers pool (IsRegularField class_flags pool) parts
 
-pub fields_read : (class_flags : ℕ) (pool : Places) → Reads (fields_at class_flags pool) (counted member_bytes) (map member_of) (AreFields class_flags pool)
+pub fields_read : (class_flags : ℕ) (pool : Slots) → Reads (fields_at class_flags pool) (counted member_bytes) (map member_of) (AreFields class_flags pool)
 unfolding fields_at
 fields_read class_flags pool = members_read pool (IsRegularField class_flags pool) (field_at class_flags pool) (field_reads class_flags pool)
 
-abbrev pub AreMethods : ℕ → Places → List MemberLayout → Type 0
+abbrev pub AreMethods : ℕ → Slots → List MemberLayout → Type 0
 AreMethods class_flags pool parts = AreMembers pool (IsRegularMethod class_flags pool) parts
 
-pub methods_read : (class_flags : ℕ) (pool : Places) → Reads (methods_at class_flags pool) (counted member_bytes) (map member_of) (AreMethods class_flags pool)
+pub methods_read : (class_flags : ℕ) (pool : Slots) → Reads (methods_at class_flags pool) (counted member_bytes) (map member_of) (AreMethods class_flags pool)
 unfolding methods_at
 methods_read class_flags pool = members_read pool (IsRegularMethod class_flags pool) (method_at class_flags pool) (method_reads class_flags pool)

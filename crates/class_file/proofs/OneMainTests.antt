@@ -3,7 +3,7 @@ use Rattle.std.proofs.Common.{◌≡◌, ℕ, suc, true, false, List, [], ◌∷
 use Rattle.std.specs.Prelude.{IsSomeAnd, codes, ◌&&◌, ◌==◌, is_none}
 use Rattle.std.proofs.lemmas.Bool.{and_parts, and_from, not-true, not_from_false, eqb-true, eq-eqb, false≢true}
 use Rattle.std.proofs.lemmas.Slice.Eq.{bytes_eq-Decides}
-use Rattle.class_pool.specs.Pool.{Places, utf8_at, class_name_at}
+use Rattle.class_pool.specs.Pool.{Slots, utf8_at, class_name_at}
 use Rattle.class_file.specs.declared.record.ClassFile.{ClassFile}
 use Rattle.class_file.specs.declared.record.CodeAttr.{CodeAttr}
 use Rattle.class_file.specs.declared.record.Member.{Member}
@@ -43,7 +43,7 @@ code_takes : (code : Option CodeAttr) → has_plain_code code ≡ true → (body
 code_takes None e = absurd (false≢true e)
 code_takes (Some body) e = (body, refl, none_takes body.handlers e)
 
-main_takes : (pool : Places) (m : Member) → is_main pool m ≡ true → IsMain pool m
+main_takes : (pool : Slots) (m : Member) → is_main pool m ≡ true → IsMain pool m
 main_takes pool m e =
     let both = and_parts (m.flags == 9 && is_main_named pool m) (is_none m.constant && has_plain_code m.code) e in
     let head = and_parts (m.flags == 9) (is_main_named pool m) both.0 in
@@ -60,7 +60,7 @@ main_takes pool m e =
       handlers = code.2;
     }
 
-main_again : (pool : Places) (m : Member) → IsMain pool m → is_main pool m ≡ true
+main_again : (pool : Slots) (m : Member) → IsMain pool m → is_main pool m ≡ true
 main_again pool m is =
     let names = and_from (is_named (codes "main") (utf8_at pool m.name)) (is_named (codes "()V") (utf8_at pool m.descriptor))
     (named_again (codes "main") (utf8_at pool m.name) is.name) (named_again (codes "()V") (utf8_at pool m.descriptor) is.descriptor) in
@@ -69,7 +69,7 @@ main_again pool m is =
     let tail = and_from (is_none m.constant) (has_plain_code m.code) (ap (λ (c : Option ℕ). is_none c) is.constant) code in
     and_from (m.flags == 9 && is_main_named pool m) (is_none m.constant && has_plain_code m.code) head tail
 
-only_takes : (pool : Places) (methods : List Member) → has_only_main pool methods ≡ true → (m : Member) × (methods ≡ m ∷ []) × IsMain pool m
+only_takes : (pool : Slots) (methods : List Member) → has_only_main pool methods ≡ true → (m : Member) × (methods ≡ m ∷ []) × IsMain pool m
 only_takes pool [] e = absurd (false≢true e)
 only_takes pool (m ∷ []) e = (m, refl, main_takes pool m e)
 only_takes pool (m ∷ other ∷ methods) e = absurd (false≢true e)
@@ -77,9 +77,9 @@ only_takes pool (m ∷ other ∷ methods) e = absurd (false≢true e)
 pub one_main_takes : (file : ClassFile) → is_one_main file ≡ true → HasOneMainRecord file
 one_main_takes file e =
     let both = and_parts (is_plain_class file && (length file.interfaces == 0 && length file.fields == 0)) (has_only_main file.pool file.methods) e in
-    let front = and_parts (is_plain_class file) (length file.interfaces == 0 && length file.fields == 0) both.0 in
-    let names = and_parts (is_named (codes "java/lang/Object") (class_name_at file.pool file.super_class)) (has_own_name (class_name_at file.pool file.this_class)) front.0 in
-    let lists = and_parts (length file.interfaces == 0) (length file.fields == 0) front.1 in
+    let prefix = and_parts (is_plain_class file) (length file.interfaces == 0 && length file.fields == 0) both.0 in
+    let names = and_parts (is_named (codes "java/lang/Object") (class_name_at file.pool file.super_class)) (has_own_name (class_name_at file.pool file.this_class)) prefix.0 in
+    let lists = and_parts (length file.interfaces == 0) (length file.fields == 0) prefix.1 in
     let only = only_takes file.pool file.methods both.1 in
     record {
       main = only.0;
@@ -96,6 +96,6 @@ one_main_again file is =
     let names = and_from (is_named (codes "java/lang/Object") (class_name_at file.pool file.super_class)) (has_own_name (class_name_at file.pool file.this_class))
     (named_again (codes "java/lang/Object") (class_name_at file.pool file.super_class) is.super_class) (own_again (class_name_at file.pool file.this_class) is.this_class) in
     let lists = and_from (length file.interfaces == 0) (length file.fields == 0) (none_again file.interfaces is.interfaces) (none_again file.fields is.fields) in
-    let front = and_from (is_plain_class file) (length file.interfaces == 0 && length file.fields == 0) names lists in
+    let prefix = and_from (is_plain_class file) (length file.interfaces == 0 && length file.fields == 0) names lists in
     let only : has_only_main file.pool file.methods ≡ true = ap (has_only_main file.pool) is.methods ∙ main_again file.pool is.main is.is_main in
-    and_from (is_plain_class file && (length file.interfaces == 0 && length file.fields == 0)) (has_only_main file.pool file.methods) front only
+    and_from (is_plain_class file && (length file.interfaces == 0 && length file.fields == 0)) (has_only_main file.pool file.methods) prefix only

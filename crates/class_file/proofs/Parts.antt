@@ -1,4 +1,4 @@
--- Readers of parts: each takes one spelling of a part that is good, and every such spelling is read.
+-- Readers of parts: each takes one encoding of a part that is good, and every such encoding is read.
 use Rattle.std.proofs.Common.{◌≡◌, ◌⊎◌, ℕ, ◌^◌, ◌<◌, Bool, true, false, cond, List, ◌++◌, length, Result, Ok, Err, refl, sym, ap, subst, ◌∙◌, append_assoc, inl, inr}
 use Rattle.std.specs.Prelude.{IsTrue}
 use Rattle.class_pool.proofs.Steps.{IsBytes, Takes, joined, true_false}
@@ -6,16 +6,16 @@ use Rattle.class_file.specs.declared.refusal.ReadRefusal.{ReadRefusal}
 use Rattle.class_file.specs.Layout.{u2, u4}
 use Rattle.class_file.specs.Relation.{FitsU2}
 use Rattle.class_file.specs.Reading.{◌>>=◌, u2_at, u4_at, slice_at}
-use Rattle.class_file.proofs.Steps.{bind_then, bind_fails, ok_is, no_failure, then_ok, under, done, IsBytes-front, IsPartFault, is_fault, passes, stops, u2_takes, u2_fails, u2_again, u4_takes, u4_fails, u4_again, slice_takes, slice_fails, slice_again}
+use Rattle.class_file.proofs.Steps.{bind_then, bind_fails, ok_is, no_failure, then_ok, under, done, IsBytes-prefix, IsPartFault, is_fault, passes, stops, u2_takes, u2_fails, u2_again, u4_takes, u4_fails, u4_again, slice_takes, slice_fails, slice_again}
 
--- what a reader took from the front: a good part, and its value
+-- what a reader took from the prefix: a good part, and its value
 pub record Taken {A L : Type 0} (text : L → List ℕ) (value : L → A) (Good : L → Type 0) (bytes : List ℕ) (x : A × List ℕ) : Type 0 where
   pub part : L
   pub takes : Takes bytes (text part) x.1
   pub good : Good part
   pub value_is : value part ≡ x.0
 
--- a reader takes good parts, reads each one that is spelled, and has no other faults than those of parts
+-- a reader takes good parts, reads each one that is encoded, and has no other faults than those of parts
 pub record Reads {A L : Type 0} (read : List ℕ → Result (A × List ℕ) ReadRefusal) (text : L → List ℕ) (value : L → A) (Good : L → Type 0) : Type 0 where
   pub taken : (bytes : List ℕ) (x : A × List ℕ) → IsBytes bytes → read bytes ≡ Ok x → Taken text value Good bytes x
   pub again : (part : L) (rest : List ℕ) → Good part → read (text part ++ rest) ≡ Ok (value part, rest)
@@ -59,7 +59,7 @@ slice_reads size =
       fails = λ bytes why fits e. slice_fails size bytes why e;
     }
 
--- ---- one part behind another
+-- ---- one part after another
 
 module _ {A B L M : Type 0} {read : List ℕ → Result (A × List ℕ) ReadRefusal} {text : L → List ℕ} {value : L → A} {Good : L → Type 0} where
   first_taken : {next : A → List ℕ → Result (B × List ℕ) ReadRefusal} {text2 : M → List ℕ} {value2 : A → M → B} {Good2 : A → M → Type 0}
@@ -142,7 +142,7 @@ module _ {A L : Type 0} {read : List ℕ → Result (A × List ℕ) ReadRefusal}
         fails = λ bytes why fits e. one.fails bytes why fits (sym (same bytes) ∙ e);
       }
 
-  -- the parts in another form, where their spelling is of bytes
+  -- the parts in another form, where their encoding is of bytes
   pub reshaped_bytes : {M : Type 0} {text2 : M → List ℕ} {value2 : M → A} {Good2 : M → Type 0} → Reads read text value Good
       → (to : L → M) → ((part : L) → IsBytes (text part) → Good part → (text part ≡ text2 (to part)) × (value2 (to part) ≡ value part) × Good2 (to part))
       → (from : M → L) → ((part : M) → Good2 part → (text2 part ≡ text (from part)) × (value (from part) ≡ value2 part) × Good (from part))
@@ -152,12 +152,12 @@ module _ {A L : Type 0} {read : List ℕ → Result (A × List ℕ) ReadRefusal}
         taken =
             λ bytes x fits e.
             let t = one.taken bytes x fits e in
-            let g = goes t.part (IsBytes-front (text t.part) x.1 (subst IsBytes t.takes.parts fits)) t.good in
-            record { part = to t.part; takes = subst (λ (front : List ℕ). Takes bytes front x.1) g.0 t.takes; good = g.2; value_is = g.1 ∙ t.value_is };
+            let g = goes t.part (IsBytes-prefix (text t.part) x.1 (subst IsBytes t.takes.parts fits)) t.good in
+            record { part = to t.part; takes = subst (λ (prefix : List ℕ). Takes bytes prefix x.1) g.0 t.takes; good = g.2; value_is = g.1 ∙ t.value_is };
         again =
             λ part rest good.
             let g = comes part good in
-            ap (λ (front : List ℕ). read (front ++ rest)) g.0 ∙ one.again (from part) rest g.2 ∙ ap (λ (a : A). Ok (a, rest)) g.1;
+            ap (λ (prefix : List ℕ). read (prefix ++ rest)) g.0 ∙ one.again (from part) rest g.2 ∙ ap (λ (a : A). Ok (a, rest)) g.1;
         fails = one.fails;
       }
 
@@ -180,7 +180,7 @@ last_tested {read = read} one view test d is = alike (tested (last one view) tes
 
 -- ---- one of two ways
 
--- a step behind a test is taken where the test holds
+-- a step after a test is taken where the test holds
 pub test_first : {A B : Type 0} (b : Bool) (x : A) (f : A → Result B ReadRefusal) (d : ReadRefusal) → cond b (f x) (Err d) ≡ (cond b (done x) (Err d) >>= f)
 test_first true x f d = refl
 test_first false x f d = refl

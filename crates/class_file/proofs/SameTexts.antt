@@ -18,7 +18,7 @@ use Rattle.std.proofs.lemmas.List.{length-append, get_or_append_left}
 use Rattle.std.proofs.lemmas.Option.{slice_get_past, slice_get-get_or}
 use Rattle.std.proofs.lemmas.Slice.Eq.{bytes_eq-Decides}
 use Rattle.std.proofs.lemmas.Map.Text.{btree_map_updates_str}
-use Rattle.class_pool.specs.Pool.{Places, utf8_at}
+use Rattle.class_pool.specs.Pool.{Slots, utf8_at}
 use Rattle.class_pool.specs.DescriptorReading.{field_of, method_of}
 use Rattle.class_file.specs.declared.head.Head.{Head}
 use Rattle.class_file.specs.declared.record.Member.{Member}
@@ -26,23 +26,23 @@ use Rattle.class_file.specs.declared.texts.TextRow.{TextRow}
 use Rattle.class_file.specs.Rules.{is_same_text, is_same_member}
 use Rattle.class_file.specs.ReadingMembers.{head_in, is_declared}
 use Rattle.class_file.specs.Texts.{shape_of, same_in, is_field_in, shape_in, same_at, AreTexts, number_in, AreNumbered, no_row, row_of, row_at, signature_of, signature_cmp, is_seen, AreSeen}
-use Rattle.class_file.proofs.Distinct.{one_behind}
+use Rattle.class_file.proofs.Distinct.{one_after}
 
--- no text stands behind the pool
-pub none_behind : (pool : Places) (index : ℕ) → length pool + 1 ≤ index → utf8_at pool index ≡ None
-none_behind pool zero le = absurd (omega arith)
-none_behind pool (suc place) le =
-    let gone : slice_get pool place ≡ None = slice_get_past pool place (omega arith) in
+-- no text follows the pool
+pub none_after : (pool : Slots) (index : ℕ) → length pool + 1 ≤ index → utf8_at pool index ≡ None
+none_after pool zero le = absurd (omega arith)
+none_after pool (suc offset) le =
+    let gone : slice_get pool offset ≡ None = slice_get_past pool offset (omega arith) in
     rw gone refl
 
 -- ---- the numbers
 
--- each text in front of an index has an index of its own
-pub record AreNumberedTo (pool : Places) (number : List ℕ → Option ℕ) (count : ℕ) : Type 0 where
+-- each text before an index has an index of its own
+pub record AreNumberedTo (pool : Slots) (number : List ℕ → Option ℕ) (count : ℕ) : Type 0 where
   pub named : (text : List ℕ) (index : ℕ) → number text ≡ Some index → utf8_at pool index ≡ Some text
   pub all : (index : ℕ) (text : List ℕ) → index < count → utf8_at pool index ≡ Some text → IsSome (number text)
 
-pub none_numbered : (pool : Places) (numbers : BTreeMap (Bor (List ℕ)) ℕ) → numbers.entries ≡ [] → AreNumberedTo pool (number_in numbers) 0
+pub none_numbered : (pool : Slots) (numbers : BTreeMap (Bor (List ℕ)) ℕ) → numbers.entries ≡ [] → AreNumberedTo pool (number_in numbers) 0
 none_numbered pool numbers empty =
     record {
       named = λ text index e. absurd (no_number text index e);
@@ -56,7 +56,7 @@ none_numbered pool numbers empty =
         cc
 
 -- a place without a text
-pub one_passed : (pool : Places) (number : List ℕ → Option ℕ) (count : ℕ) → utf8_at pool count ≡ None → AreNumberedTo pool number count → AreNumberedTo pool number (count + 1)
+pub one_passed : (pool : Slots) (number : List ℕ → Option ℕ) (count : ℕ) → utf8_at pool count ≡ None → AreNumberedTo pool number count → AreNumberedTo pool number (count + 1)
 one_passed pool number count none so_far =
     record {
       named = so_far.named;
@@ -70,7 +70,7 @@ one_passed pool number count none so_far =
         cc
 
 -- a place with a text, which is put in
-pub one_numbered : (pool : Places) (old new : BTreeMap (Bor (List ℕ)) ℕ) (count : ℕ) (text : List ℕ) → utf8_at pool count ≡ Some text
+pub one_numbered : (pool : Slots) (old new : BTreeMap (Bor (List ℕ)) ℕ) (count : ℕ) (text : List ℕ) → utf8_at pool count ≡ Some text
     → tree.UpdatesBy (λ x y. slice_cmp nat_cmp x.now y.now) (λ key. slice_cmp nat_cmp text key.now) old new (Some count) → AreNumberedTo pool (number_in old) count → AreNumberedTo pool (number_in new) (count + 1)
 one_numbered pool old new count text here puts so_far =
     record {
@@ -85,12 +85,12 @@ one_numbered pool old new count text here puts so_far =
     one_text : (a b : List ℕ) → Some a ≡ Some b → a ≡ b
     one_text a b e = cc
 
-    one_place : (a b : ℕ) → Some a ≡ Some b → a ≡ b
-    one_place a b e = cc
+    one_slot : (a b : ℕ) → Some a ≡ Some b → a ≡ b
+    one_slot a b e = cc
 
     names : (other : List ℕ) (index : ℕ) (test : Bool) → bytes_eq text other ≡ test → cond (bytes_eq text other) (Some count) (number_in old other) ≡ Some index → utf8_at pool index ≡ Some other
     names other index true same e =
-        let at : count ≡ index = one_place count index (sym (ap (λ b. cond b (Some count) (number_in old other)) same) ∙ e) in
+        let at : count ≡ index = one_slot count index (sym (ap (λ b. cond b (Some count) (number_in old other)) same) ∙ e) in
         let is : text ≡ other = (bytes_eq-Decides text other).0 same in
         ap (utf8_at pool) (sym at) ∙ (here ∙ ap (λ (t : List ℕ). Some t) is)
     names other index false apart e = so_far.named other index (sym (ap (λ b. cond b (Some count) (number_in old other)) apart) ∙ e)
@@ -110,7 +110,7 @@ one_numbered pool old new count text here puts so_far =
     had : (other : List ℕ) → IsSome (number_in old other) → IsSome (number_in new other)
     had other is = rw (now other) (kept (bytes_eq text other) (number_in old other) is)
 
-pub all_numbered : (pool : Places) (number : List ℕ → Option ℕ) (count : ℕ) → length pool + 1 ≤ count → AreNumberedTo pool number count → AreNumbered pool number
+pub all_numbered : (pool : Slots) (number : List ℕ → Option ℕ) (count : ℕ) → length pool + 1 ≤ count → AreNumberedTo pool number count → AreNumbered pool number
 all_numbered pool number count le so_far =
     record {
       named = so_far.named;
@@ -119,7 +119,7 @@ all_numbered pool number count le so_far =
   where
     gone : (index : ℕ) (text : List ℕ) → length pool + 1 ≤ index → utf8_at pool index ≡ Some text → ⊥
     gone index text past is =
-        let both : None ≡ Some text = sym (none_behind pool index past) ∙ is in
+        let both : None ≡ Some text = sym (none_after pool index past) ∙ is in
         cc
 
 -- ---- the rows
@@ -128,7 +128,7 @@ all_numbered pool number count le so_far =
 pub one_row : {X : Type 0} (rows : List X) (row : X) (at : ℕ → X) (count : ℕ) → length rows ≡ count → ((index : ℕ) → index < length rows → slice_get rows index ≡ Some (at index)) → row ≡ at count
     → (length (rows ++ row ∷ []) ≡ count + 1) × ((index : ℕ) → index < length (rows ++ row ∷ []) → slice_get (rows ++ row ∷ []) index ≡ Some (at index))
 one_row {X} rows row at count size so_far is =
-    (longer ∙ ap (λ n. n + 1) size, λ index lt. ⊎_elim (λ front. earlier index lt front) (λ past. last index lt (omega (arith, longer))) (cases_lt index (length rows)))
+    (longer ∙ ap (λ n. n + 1) size, λ index lt. ⊎_elim (λ prefix. earlier index lt prefix) (λ past. last index lt (omega (arith, longer))) (cases_lt index (length rows)))
   where
     longer : length (rows ++ row ∷ []) ≡ length rows + 1
     longer = length-append rows (row ∷ [])
@@ -137,16 +137,16 @@ one_row {X} rows row at count size so_far is =
     some a b e = ap (λ (x : X). Some x) e
 
     earlier : (index : ℕ) → index < length (rows ++ row ∷ []) → index < length rows → slice_get (rows ++ row ∷ []) index ≡ Some (at index)
-    earlier index lt front =
+    earlier index lt prefix =
         slice_get-get_or (rows ++ row ∷ []) index row lt
-        ∙ (some (get_or (rows ++ row ∷ []) index row) (get_or rows index row) (get_or_append_left rows (row ∷ []) row index front) ∙ (sym (slice_get-get_or rows index row front) ∙ so_far index front))
+        ∙ (some (get_or (rows ++ row ∷ []) index row) (get_or rows index row) (get_or_append_left rows (row ∷ []) row index prefix) ∙ (sym (slice_get-get_or rows index row prefix) ∙ so_far index prefix))
 
     last : (index : ℕ) → index < length (rows ++ row ∷ []) → index ≡ length rows → slice_get (rows ++ row ∷ []) index ≡ Some (at index)
     last index lt end =
         slice_get-get_or (rows ++ row ∷ []) index row lt
         ∙ (some (get_or (rows ++ row ∷ []) index row) row (ap (λ n. get_or (rows ++ row ∷ []) n row) end ∙ get_or-append_seam rows row [] row) ∙ some row (at index) (is ∙ ap at (sym size ∙ sym end)))
 
-pub table_is_right : (pool : Places) (number : List ℕ → Option ℕ) (rows : List TextRow) → AreNumbered pool number → length rows ≡ length pool + 1
+pub table_is_right : (pool : Slots) (number : List ℕ → Option ℕ) (rows : List TextRow) → AreNumbered pool number → length rows ≡ length pool + 1
     → ((index : ℕ) → index < length rows → slice_get rows index ≡ Some (row_at pool number index)) → AreTexts pool rows
 table_is_right pool number rows numbered count each =
     record {
@@ -162,7 +162,7 @@ table_is_right pool number rows numbered count each =
         ⊎_elim (λ lt. ap of (each index lt) ∙ some (row_at pool number index))
         (λ past.
         let gone : slice_get rows index ≡ None = slice_get_past rows index past in
-        let no_text : utf8_at pool index ≡ None = none_behind pool index (omega arith) in
+        let no_text : utf8_at pool index ≡ None = none_after pool index (omega arith) in
         ap of gone ∙ (none ∙ ap (λ found. part (row_of number found)) (sym no_text)))
         (cases_lt index (length rows))
 
@@ -192,7 +192,7 @@ Decides-same_text (Some text) (Some other) is =
     let tells = bytes_eq-Decides other text in
     (λ e. ap (λ (t : List ℕ). Some t) (sym (tells.0 e)), λ (e : Some text ≡ Some other). tells.1 cc)
 
-module _ (pool : Places) (rows : List TextRow) (right : AreTexts pool rows) where
+module _ (pool : Slots) (rows : List TextRow) (right : AreTexts pool rows) where
   Decides-same_index : (first second : ℕ) → Decides (same_at rows first == same_at rows second) (utf8_at pool first ≡ utf8_at pool second)
   Decides-same_index first second = (
     λ e. sym (right.same_text first) ∙ (ap (utf8_at pool) (eqb-true (same_at rows first) (same_at rows second) e) ∙ right.same_text second),
@@ -226,9 +226,9 @@ module _ (pool : Places) (rows : List TextRow) (right : AreTexts pool rows) wher
       let one : is_same_member pool (head_in m) head ≡ is_at (signature_cmp (signature_of rows (head_in m))) (signature_of rows head) = same_signature (head_in m) head name descriptor in
       now ∙ (ap (λ (b : Bool). cond b true (is_seen rows old head)) (sym one)
       ∙ (joined (is_same_member pool (head_in m) head) (is_seen rows old head)
-      ∙ (ap (λ (b : Bool). b || (is_same_member pool (head_in m) head || false)) (so_far head name descriptor) ∙ sym (one_behind pool earlier m head))))
+      ∙ (ap (λ (b : Bool). b || (is_same_member pool (head_in m) head || false)) (so_far head name descriptor) ∙ sym (one_after pool earlier m head))))
 
 -- before the first
-pub none_seen : (pool : Places) (rows : List TextRow) (seen : BTreeSet (ℕ × ℕ)) → seen.keys ≡ [] → AreSeen pool rows [] seen
+pub none_seen : (pool : Slots) (rows : List TextRow) (seen : BTreeSet (ℕ × ℕ)) → seen.keys ≡ [] → AreSeen pool rows [] seen
 unfolding is_declared
 none_seen pool rows seen empty head name descriptor = rw empty refl

@@ -45,7 +45,7 @@ then_ok f y e h = rw e h
 pub then_err : {A B : Type 0} {r : Result A ReadRefusal} {why : ReadRefusal} (f : A → Result B ReadRefusal) → r ≡ Err why → (r >>= f) ≡ Err why
 then_err f e = rw e refl
 
--- steps behind a step may be grouped with it
+-- steps after a step may be grouped with it
 pub under : {A B C : Type 0} (r : Result A ReadRefusal) (f : A → Result C ReadRefusal) (g : A → Result B ReadRefusal) (h : B → Result C ReadRefusal) → ((x : A) → f x ≡ (g x >>= h)) → (r >>= f) ≡ ((r >>= g) >>= h)
 under (Ok x) f g h e = e x
 under (Err why) f g h e = refl
@@ -84,13 +84,13 @@ pub stops : {A : Type 0} (b : Bool) (x : A) (d why : ReadRefusal) → cond b (do
 stops true x d why e = absurd (no_failure x why e)
 stops {A = A} false x d why e = (refl, same_why {A = A} d why e)
 
--- ---- what is taken from the front
+-- ---- what is taken from the prefix
 
-pub IsBytes-front : (text rest : List ℕ) → IsBytes (text ++ rest) → IsBytes text
-IsBytes-front text rest h = subst IsBytes (take_at text rest (length text) refl) (IsBytes-take (length text) (text ++ rest) h)
+pub IsBytes-prefix : (text rest : List ℕ) → IsBytes (text ++ rest) → IsBytes text
+IsBytes-prefix text rest h = subst IsBytes (take_at text rest (length text) refl) (IsBytes-take (length text) (text ++ rest) h)
 
-pub IsBytes-behind : (text rest : List ℕ) → IsBytes (text ++ rest) → IsBytes rest
-IsBytes-behind text rest h = subst IsBytes (drop_at text rest (length text) refl) (IsBytes-drop (length text) (text ++ rest) h)
+pub IsBytes-after : (text rest : List ℕ) → IsBytes (text ++ rest) → IsBytes rest
+IsBytes-after text rest h = subst IsBytes (drop_at text rest (length text) refl) (IsBytes-drop (length text) (text ++ rest) h)
 
 abbrev pub pair : {A B : Type 0} → A → B → A × B
 pair a b = (a, b)
@@ -124,8 +124,8 @@ unfolding u2_at
 u2_again n rest lt =
     let long : ltb (length (u2 n ++ rest)) 2 ≡ false = le-ltb _ _ (omega (arith, length-append (u2 n) rest)) in
     let number : big_number 2 (u2 n ++ rest) ≡ n = big_number-reads_back 2 n rest lt in
-    let behind : drop 2 (u2 n ++ rest) ≡ rest = drop_at (u2 n) rest 2 refl in
-    rw long (ap (λ (x : ℕ × List ℕ). Ok x) (both number behind))
+    let suffix : drop 2 (u2 n ++ rest) ≡ rest = drop_at (u2 n) rest 2 refl in
+    rw long (ap (λ (x : ℕ × List ℕ). Ok x) (both number suffix))
 
 pub u4_takes : (bytes : List ℕ) (x : ℕ × List ℕ) → IsBytes bytes → u4_at bytes ≡ Ok x → Takes bytes (u4 x.0) x.1 × (x.0 < 2 ^ 32)
 unfolding u4_at
@@ -144,8 +144,8 @@ unfolding u4_at
 u4_again n rest lt =
     let long : ltb (length (u4 n ++ rest)) 4 ≡ false = le-ltb _ _ (omega (arith, length-append (u4 n) rest)) in
     let number : big_number 4 (u4 n ++ rest) ≡ n = big_number-reads_back 4 n rest lt in
-    let behind : drop 4 (u4 n ++ rest) ≡ rest = drop_at (u4 n) rest 4 refl in
-    rw long (ap (λ (x : ℕ × List ℕ). Ok x) (both number behind))
+    let suffix : drop 4 (u4 n ++ rest) ≡ rest = drop_at (u4 n) rest 4 refl in
+    rw long (ap (λ (x : ℕ × List ℕ). Ok x) (both number suffix))
 
 pub slice_takes : (size : ℕ) (bytes : List ℕ) (x : List ℕ × List ℕ) → IsBytes bytes → slice_at size bytes ≡ Ok x → Takes bytes x.0 x.1 × (length x.0 ≡ size)
 unfolding slice_at

@@ -27,9 +27,9 @@ pub record IsBegun (bytes : List ℕ) : Type 0 where
 is_magic : (bytes : List ℕ) → bytes_eq (take 4 bytes) magic ≡ true → take 4 bytes ≡ magic
 is_magic bytes e = (bytes_eq-Decides (take 4 bytes) magic).0 e
 
-pub class_behind : (bytes : List ℕ) → IsBegun bytes → class_of bytes ≡ body_of (drop 4 bytes)
+pub class_rest : (bytes : List ℕ) → IsBegun bytes → class_of bytes ≡ body_of (drop 4 bytes)
 unfolding class_of
-class_behind bytes is =
+class_rest bytes is =
     let few : ltb largest (length bytes) ≡ false = le-ltb _ _ is.size in
     let same : bytes_eq (take 4 bytes) magic ≡ true = (bytes_eq-Decides (take 4 bytes) magic).1 is.begins in
     rw (few, same) refl
@@ -62,10 +62,10 @@ begun_of : (rest : List ℕ) → length (magic ++ rest) ≤ largest → IsBegun 
 begun_of rest size = record { size = size; begins = take_at magic rest 4 refl }
 
 class_after : (rest : List ℕ) → length (magic ++ rest) ≤ largest → class_of (magic ++ rest) ≡ body_of rest
-class_after rest size = class_behind (magic ++ rest) (begun_of rest size) ∙ ap body_of (drop_at magic rest 4 refl)
+class_after rest size = class_rest (magic ++ rest) (begun_of rest size) ∙ ap body_of (drop_at magic rest 4 refl)
 
 parts_are : (bytes body : List ℕ) → IsBegun bytes → drop 4 bytes ≡ body → bytes ≡ magic ++ body
-parts_are bytes body is e = sym (take-append-drop 4 bytes) ∙ ap (λ (front : List ℕ). front ++ drop 4 bytes) is.begins ∙ ap (λ (rest : List ℕ). magic ++ rest) e
+parts_are bytes body is e = sym (take-append-drop 4 bytes) ∙ ap (λ (prefix : List ℕ). prefix ++ drop 4 bytes) is.begins ∙ ap (λ (rest : List ℕ). magic ++ rest) e
 
 -- ---- records
 
@@ -75,13 +75,13 @@ file_is bytes file fits e =
     ways (IsClassFile bytes file) bytes (Ok file) e (λ many is. absurd (no_failure file (TooLarge (capped (length bytes))) (sym is))) (λ size other is. absurd (no_failure file NotClass (sym is))) (λ begun e_file.
     let b = body_taken (drop 4 bytes) file (IsBytes-drop 4 bytes fits) e_file in (
       b.layout,
-      record { spelled = parts_are bytes (body_bytes b.layout) begun (b.spelled ∙ append-nil (body_bytes b.layout)); size = begun.size; fits = b.sound.fits; regular = b.sound.regular; stands = b.stands },
+      record { encoded = parts_are bytes (body_bytes b.layout) begun (b.encoded ∙ append-nil (body_bytes b.layout)); size = begun.size; fits = b.sound.fits; regular = b.sound.regular; stands = b.stands },
     ))
 
--- a class file is read up to its end, and what is behind it is told
+-- a class file is read up to its end, and what is after it is told
 read_with : (class tail : List ℕ) (l : Layout) (file : ClassFile) → IsLaidOut class l file → length (class ++ tail) ≤ largest → class_of (class ++ tail) ≡ ended (file, tail)
 read_with class tail l file is size =
-    let whole : class ++ tail ≡ magic ++ (body_bytes l ++ tail) = ap (λ (front : List ℕ). front ++ tail) is.spelled ∙ append_assoc magic (body_bytes l) tail in
+    let whole : class ++ tail ≡ magic ++ (body_bytes l ++ tail) = ap (λ (prefix : List ℕ). prefix ++ tail) is.encoded ∙ append_assoc magic (body_bytes l) tail in
     ap class_of whole ∙ class_after (body_bytes l ++ tail) (subst (λ (bytes : List ℕ). length bytes ≤ largest) whole size) ∙ body_again l tail (record { fits = is.fits; regular = is.regular })
     ∙ ap (λ (f : ClassFile). ended (f, tail)) (sym is.stands)
 
@@ -108,7 +108,7 @@ other_is bytes major begun is =
       more = is.more;
       minor_fits = is.fits.0;
       major_fits = is.fits.1;
-      spelled = parts_are bytes (u2 is.minor ++ (u2 major ++ is.more)) begun (is.spelled ∙ append_assoc (u2 is.minor) (u2 major) is.more);
+      encoded = parts_are bytes (u2 is.minor ++ (u2 major ++ is.more)) begun (is.encoded ∙ append_assoc (u2 is.minor) (u2 major) is.more);
       other = is.other;
     }
 
@@ -116,31 +116,31 @@ version_so : (bytes : List ℕ) (major : ℕ) → length bytes ≤ largest → H
 version_so bytes major size is =
     let rest : List ℕ = u2 is.minor ++ (u2 major ++ is.more) in
     let other : IsOther (u2 is.minor ++ (u2 major ++ is.more)) major =
-    record { minor = is.minor; more = is.more; fits = (is.minor_fits, is.major_fits); spelled = sym (append_assoc (u2 is.minor) (u2 major) is.more); other = is.other } in
-    ap class_of is.spelled ∙ class_after rest (subst (λ (all : List ℕ). length all ≤ largest) is.spelled size) ∙ body_refused rest major other
+    record { minor = is.minor; more = is.more; fits = (is.minor_fits, is.major_fits); encoded = sym (append_assoc (u2 is.minor) (u2 major) is.more); other = is.other } in
+    ap class_of is.encoded ∙ class_after rest (subst (λ (all : List ℕ). length all ≤ largest) is.encoded size) ∙ body_refused rest major other
 
--- bytes behind a class file
+-- bytes after a class file
 tail_is : (bytes : List ℕ) (why : ReadRefusal) → IsBegun bytes → IsTailed (drop 4 bytes) why → IsRefused bytes why
 tail_is bytes why begun is =
     let l : Layout = is.body.layout in
-    let whole : bytes ≡ (magic ++ body_bytes l) ++ is.tail = parts_are bytes (body_bytes l ++ is.tail) begun is.body.spelled ∙ sym (append_assoc magic (body_bytes l) is.tail) in
+    let whole : bytes ≡ (magic ++ body_bytes l) ++ is.tail = parts_are bytes (body_bytes l ++ is.tail) begun is.body.encoded ∙ sym (append_assoc magic (body_bytes l) is.tail) in
     let long : length bytes ≡ length (magic ++ body_bytes l) + length is.tail = ap length whole ∙ length-append (magic ++ body_bytes l) is.tail in
     let small : length is.tail ≤ largest = omega (arith, long, begun.size) in
     let small_class : length (magic ++ body_bytes l) ≤ largest = omega (arith, long, begun.size) in
-    let laid : IsLaidOut (magic ++ body_bytes l) l is.file = record { spelled = refl; size = small_class; fits = is.body.sound.fits; regular = is.body.sound.regular; stands = is.body.stands } in
+    let laid : IsLaidOut (magic ++ body_bytes l) l is.file = record { encoded = refl; size = small_class; fits = is.body.sound.fits; regular = is.body.sound.regular; stands = is.body.stands } in
     let count_is : capped (length is.tail) ≡ length is.tail = capped_is (length is.tail) small in
     let some : 0 < capped (length is.tail) = omega (arith, count_is, is.some) in
-    let has : HasTail bytes (capped (length is.tail)) = record { class = magic ++ body_bytes l; tail = is.tail; file = is.file; spelled = whole; class_file = (l, laid); size = sym count_is; some = some } in
+    let has : HasTail bytes (capped (length is.tail)) = record { class = magic ++ body_bytes l; tail = is.tail; file = is.file; encoded = whole; class_file = (l, laid); size = sym count_is; some = some } in
     subst (IsRefused bytes) is.why_is (begun.size, has)
 
 tail_so : (bytes : List ℕ) (count : ℕ) → length bytes ≤ largest → HasTail bytes count → class_of bytes ≡ Err (TrailingBytes count)
 tail_so bytes count size has =
-    let whole_size : length (has.class ++ has.tail) ≤ largest = subst (λ (all : List ℕ). length all ≤ largest) has.spelled size in
+    let whole_size : length (has.class ++ has.tail) ≤ largest = subst (λ (all : List ℕ). length all ≤ largest) has.encoded size in
     let small : length has.tail ≤ largest = omega (arith, whole_size, length-append has.class has.tail) in
     let not_none : eqb (length has.tail) 0 ≡ false = ne_eqb (length has.tail) 0 (λ none. omega (arith, none, has.size, has.some)) in
     let told : ended (has.file, has.tail) ≡ Err (TrailingBytes count) =
     rw not_none (ap (λ (n : ℕ). failed {A = ClassFile} (TrailingBytes n)) (capped_is (length has.tail) small ∙ has.size)) in
-    ap class_of has.spelled ∙ read_with has.class has.tail has.class_file.0 has.file has.class_file.1 whole_size ∙ told
+    ap class_of has.encoded ∙ read_with has.class has.tail has.class_file.0 has.file has.class_file.1 whole_size ∙ told
 
 part_refused : (bytes : List ℕ) (why : ReadRefusal) → IsPartFault why → class_of bytes ≡ Err why → IsRefused bytes why
 part_refused bytes Truncated is e = e
@@ -181,7 +181,7 @@ no_memory bytes fits e = refused_is bytes Memory fits e
 
 -- the bytes of a class file begin with the magic
 pub begins : (bytes : List ℕ) (file : ClassFile) → IsClassFile bytes file → take 4 bytes ≡ magic
-begins bytes file is = ap (take 4) is.1.spelled ∙ take_at magic (body_bytes is.0) 4 refl
+begins bytes file is = ap (take 4) is.1.encoded ∙ take_at magic (body_bytes is.0) 4 refl
 
 -- ---- both ways
 

@@ -1,5 +1,5 @@
 -- How a class file is laid out (JVMS 4.1, 4.5 to 4.7): its numbers and lists in the order of the bytes.
--- A layout has one spelling. The attributes that are skipped stand in it, so a record alone has many.
+-- A layout has one encoding. The attributes that are skipped stand in it, so a record alone has many.
 use Rattle.std.specs.Prelude.{ℕ, List, [], ◌∷◌, ◌++◌, length, map, Option, Some, None}
 use Rattle.std.specs.List.{flat_map}
 use Rattle.byteorder.specs.Endian.{big_bytes}
@@ -8,7 +8,7 @@ use Rattle.class_file.specs.declared.record.Member.{Member}
 use Rattle.class_file.specs.declared.record.CodeAttr.{CodeAttr}
 use Rattle.class_file.specs.declared.record.HandlerRow.{HandlerRow}
 use Rattle.class_file.specs.declared.head.Head.{Head}
-use Rattle.class_pool.specs.Pool.{Places, pool_bytes}
+use Rattle.class_pool.specs.Pool.{Slots, pool_bytes}
 
 -- an attribute as such: the index of its name, and bytes
 pub record Attribute : Type 0 where
@@ -30,7 +30,7 @@ pub record MemberLayout : Type 0 where
 pub record Layout : Type 0 where
   pub minor : ℕ
   pub major : ℕ
-  pub pool : Places
+  pub pool : Slots
   pub flags : ℕ
   pub this_class : ℕ
   pub super_class : ℕ
@@ -76,8 +76,8 @@ member_bytes m = u2 m.flags ++ (u2 m.name ++ (u2 m.descriptor ++ counted (λ a. 
 abbrev pub magic : List ℕ
 magic = 202 ∷ 254 ∷ 186 ∷ 190 ∷ []
 
-abbrev pub spelling : Layout → List ℕ
-spelling l =
+abbrev pub encoding : Layout → List ℕ
+encoding l =
     magic ++ (u2 l.minor ++ (u2 l.major ++ (pool_bytes l.pool
     ++ (u2 l.flags ++ (u2 l.this_class ++ (u2 l.super_class ++ (counted u2 l.interfaces
     ++ (counted member_bytes l.fields ++ (counted member_bytes l.methods ++ counted attribute_bytes l.attributes)))))))))

@@ -6,5 +6,5 @@ pub mod Reading
 pub mod ReadingMembers
 pub mod ReadingClass
 pub mod Refused
-pub mod Fronts
+pub mod Prefixes
 pub mod Texts

@@ -2,7 +2,7 @@
 -- else stands in the constant pool, is left open.
 use Rattle.std.specs.Prelude.{◌≡◌, ℕ, Bool, false, ◌&&◌, ◌||◌, not, ◌==◌, nat_eq, List, [], ◌∷◌, length, Option, Some, None, is_none, IsSomeAnd, codes}
 use Rattle.std.specs.List.{starts_with}
-use Rattle.class_pool.specs.Pool.{Places, utf8_at, class_name_at}
+use Rattle.class_pool.specs.Pool.{Slots, utf8_at, class_name_at}
 use Rattle.class_file.specs.declared.record.ClassFile.{ClassFile}
 use Rattle.class_file.specs.declared.record.CodeAttr.{CodeAttr}
 use Rattle.class_file.specs.declared.record.Member.{Member}
@@ -14,7 +14,7 @@ abbrev pub is_reserved : List ℕ → Bool
 is_reserved name = starts_with nat_eq name (codes "java/") || starts_with nat_eq name (codes "mote/")
 
 -- public static main()V with code alone, and no handler
-pub record IsMain (pool : Places) (m : Member) : Type 0 where
+pub record IsMain (pool : Slots) (m : Member) : Type 0 where
   pub body : CodeAttr
   pub flags : m.flags ≡ 9
   pub name : utf8_at pool m.name ≡ Some (codes "main")
@@ -45,14 +45,14 @@ abbrev pub has_plain_code : Option CodeAttr → Bool
 has_plain_code None = false
 has_plain_code (Some code) = length code.handlers == 0
 
-abbrev pub is_main_named : Places → Member → Bool
+abbrev pub is_main_named : Slots → Member → Bool
 is_main_named pool m = is_named (codes "main") (utf8_at pool m.name) && is_named (codes "()V") (utf8_at pool m.descriptor)
 
-abbrev pub is_main : Places → Member → Bool
+abbrev pub is_main : Slots → Member → Bool
 is_main pool m = (m.flags == 9 && is_main_named pool m) && (is_none m.constant && has_plain_code m.code)
 
 -- there is one method, and it is main
-abbrev pub has_only_main : Places → List Member → Bool
+abbrev pub has_only_main : Slots → List Member → Bool
 has_only_main pool (m ∷ []) = is_main pool m
 has_only_main pool _ = false
 

@@ -1,4 +1,4 @@
--- Reading as a function on lists: a part is a value and the bytes behind it, or a refusal. Here is what
+-- Reading as a function on lists: a part is a value and the bytes after it, or a refusal. Here is what
 -- all parts are made of: numbers, slices and lists.
 use Rattle.std.specs.Prelude.{◌≡◌, ℕ, zero, suc, nat_lt, if◌then◌else◌, List, [], ◌∷◌, ◌++◌, length, take, drop, Result, Ok, Err}
 use Rattle.byteorder.specs.Endian.{big_number}
@@ -46,7 +46,7 @@ steps_at step before (suc count) bytes = step before bytes >>= λ next. steps_at
 unfoldable pub counted_at : {A : Type 0} → (A → List ℕ → Result (A × List ℕ) ReadRefusal) → A → List ℕ → Result (A × List ℕ) ReadRefusal
 counted_at step before bytes = u2_at bytes >>= λ count. steps_at step before count.0 count.1
 
--- one more item behind the earlier ones
+-- one more item after the earlier ones
 abbrev pub one_more : {A : Type 0} → (List A → List ℕ → Result (A × List ℕ) ReadRefusal) → List A → List ℕ → Result (List A × List ℕ) ReadRefusal
 one_more item earlier bytes = item earlier bytes >>= λ next. Ok (earlier ++ next.0 ∷ [], next.1)
 

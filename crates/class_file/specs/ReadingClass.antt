@@ -3,7 +3,7 @@ use Rattle.std.specs.Prelude.{ℕ, ◌&&◌, ◌==◌, nat_lt, nat_le, min, if�
 use Rattle.std.specs.Str.{bytes_eq}
 use Rattle.class_pool.specs.declared.refusal.PoolRefusal.{PoolRefusal}
 use Rattle.class_pool.specs.declared.refusal.PoolRefusal.TheVariants.{Truncated as PoolTruncated, BadTag, BadIndex, BadUtf8, Memory as PoolMemory}
-use Rattle.class_pool.specs.Pool.{Places}
+use Rattle.class_pool.specs.Pool.{Slots}
 use Rattle.class_pool.specs.PoolReading.{pool_from}
 use Rattle.class_file.specs.declared.record.ClassFile.{ClassFile}
 use Rattle.class_file.specs.declared.record.Member.{Member}
@@ -35,13 +35,13 @@ of_pool (BadIndex index) = BadPool index
 of_pool (BadUtf8 index) = BadPool index
 of_pool PoolMemory = Memory
 
--- the pool, and the bytes behind its place
-abbrev pub behind_pool : List ℕ → Result (Places × ℕ) PoolRefusal → Result (Places × List ℕ) ReadRefusal
-behind_pool bytes (Ok pool) = Ok (pool.0, drop pool.1 bytes)
-behind_pool bytes (Err why) = Err (of_pool why)
+-- the pool, and the bytes after its place
+abbrev pub after_pool : List ℕ → Result (Slots × ℕ) PoolRefusal → Result (Slots × List ℕ) ReadRefusal
+after_pool bytes (Ok pool) = Ok (pool.0, drop pool.1 bytes)
+after_pool bytes (Err why) = Err (of_pool why)
 
-unfoldable pub pool_at : List ℕ → Result (Places × List ℕ) ReadRefusal
-pool_at bytes = behind_pool bytes (pool_from bytes 0)
+unfoldable pub pool_at : List ℕ → Result (Slots × List ℕ) ReadRefusal
+pool_at bytes = after_pool bytes (pool_from bytes 0)
 
 unfoldable pub class_flags_at : List ℕ → Result (ℕ × List ℕ) ReadRefusal
 class_flags_at bytes = do
@@ -49,16 +49,16 @@ class_flags_at bytes = do
   if are_class_flags flags.0 then Ok flags else Err BadShape
 
 -- the index of a class that is no array
-unfoldable pub class_index_at : Places → List ℕ → Result (ℕ × List ℕ) ReadRefusal
+unfoldable pub class_index_at : Slots → List ℕ → Result (ℕ × List ℕ) ReadRefusal
 class_index_at pool bytes = do
   index ← u2_at bytes
   if names_class pool index.0 then Ok index else Err BadShape
 
-unfoldable pub interfaces_at : Places → List ℕ → Result (List ℕ × List ℕ) ReadRefusal
+unfoldable pub interfaces_at : Slots → List ℕ → Result (List ℕ × List ℕ) ReadRefusal
 interfaces_at pool bytes = list_at (λ earlier rest. class_index_at pool rest) bytes
 
 -- from the flags to the interfaces
-unfoldable pub class_head_at : Places → List ℕ → Result (ClassHead × List ℕ) ReadRefusal
+unfoldable pub class_head_at : Slots → List ℕ → Result (ClassHead × List ℕ) ReadRefusal
 class_head_at pool bytes = do
   flags ← class_flags_at bytes
   this_class ← class_index_at pool flags.1
@@ -67,14 +67,14 @@ class_head_at pool bytes = do
   Ok (record { flags = flags.0; this_class = this_class.0; super_class = super_class.0; interfaces = interfaces.0 }, interfaces.1)
 
 -- fields and methods, and the attributes, which are skipped
-unfoldable pub members_at : ℕ → Places → List ℕ → Result ((List Member × List Member) × List ℕ) ReadRefusal
+unfoldable pub members_at : ℕ → Slots → List ℕ → Result ((List Member × List Member) × List ℕ) ReadRefusal
 members_at class_flags pool bytes = do
   fields ← fields_at class_flags pool bytes
   methods ← methods_at class_flags pool fields.1
   rest ← skip_all_at pool methods.1
   Ok ((fields.0, methods.0), rest)
 
--- what stands behind the magic
+-- what follows the magic
 unfoldable pub body_of : List ℕ → Result ClassFile ReadRefusal
 body_of bytes = do
   version ← version_at bytes

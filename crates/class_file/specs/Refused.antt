@@ -13,15 +13,15 @@ pub record HasOtherVersion (bytes : List ℕ) (major : ℕ) : Type 0 where
   pub more : List ℕ
   pub minor_fits : FitsU2 minor
   pub major_fits : FitsU2 major
-  pub spelled : bytes ≡ magic ++ (u2 minor ++ (u2 major ++ more))
+  pub encoded : bytes ≡ magic ++ (u2 minor ++ (u2 major ++ more))
   pub other : (major < 45) ⊎ (52 < major)
 
--- a class file, and so many bytes behind it
+-- a class file, and so many bytes after it
 pub record HasTail (bytes : List ℕ) (count : ℕ) : Type 0 where
   pub class : List ℕ
   pub tail : List ℕ
   pub file : ClassFile
-  pub spelled : bytes ≡ class ++ tail
+  pub encoded : bytes ≡ class ++ tail
   pub class_file : IsClassFile class file
   pub size : length tail ≡ count
   pub some : 0 < count

@@ -1,17 +1,17 @@
--- The class file relation (JVMS 4.1 to 4.8): the bytes are the spelling of a layout whose numbers fit
+-- The class file relation (JVMS 4.1 to 4.8): the bytes are the encoding of a layout whose numbers fit
 -- their fields and which keeps the rules, and the record is that of the layout.
 use Rattle.std.specs.Prelude.{◌≡◌, ℕ, ◌^◌, ◌<◌, ◌≤◌, false, not, IsTrue, if◌then◌else◌, List, length, map, IsSome, IsSomeAnd, codes}
 use Rattle.std.specs.List.{AllByRecursion, IsDistinct}
 use Rattle.std.specs.Str.{bytes_eq}
 use Rattle.class_pool.specs.declared.descriptor.Kind.{Kind}
 use Rattle.class_pool.specs.declared.descriptor.Descriptor.{Descriptor}
-use Rattle.class_pool.specs.Pool.{Places, utf8_at, IsPool}
+use Rattle.class_pool.specs.Pool.{Slots, utf8_at, IsPool}
 use Rattle.class_pool.specs.Descriptors.{IsFieldText, IsMethodText}
 use Rattle.class_file.specs.declared.record.ClassFile.{ClassFile}
 use Rattle.class_file.specs.declared.record.CodeAttr.{CodeAttr}
 use Rattle.class_file.specs.declared.record.HandlerRow.{HandlerRow}
-use Rattle.class_file.specs.Rules.{is_native, is_abstract, is_named, are_class_flags, names_class, has_one_access, fits_interface_field, fits_interface_method, fits_abstract, fits_special_name, fits_constructor, fits_initialiser, fits_places, is_same_member, is_code_size, is_handler}
-use Rattle.class_file.specs.Layout.{Attribute, MemberAttribute, Coded, Valued, Skipped, plain, MemberLayout, head_of, codes_in, values_in, Layout, spelling, record_of}
+use Rattle.class_file.specs.Rules.{is_native, is_abstract, is_named, are_class_flags, names_class, has_one_access, fits_interface_field, fits_interface_method, fits_abstract, fits_special_name, fits_constructor, fits_initialiser, fits_slots, is_same_member, is_code_size, is_handler}
+use Rattle.class_file.specs.Layout.{Attribute, MemberAttribute, Coded, Valued, Skipped, plain, MemberLayout, head_of, codes_in, values_in, Layout, encoding, record_of}
 
 -- ---- the numbers fit their fields
 
@@ -72,33 +72,33 @@ pub record FitsLayout (l : Layout) : Type 0 where
 -- ---- the rules
 
 -- an attribute of which only the name is asked
-abbrev pub IsSkippable : Places → Attribute → Type 0
+abbrev pub IsSkippable : Slots → Attribute → Type 0
 IsSkippable pool a = IsSome (utf8_at pool a.name)
 
 -- an attribute of another name than this one
-abbrev pub HasOtherName : List ℕ → Places → Attribute → Type 0
+abbrev pub HasOtherName : List ℕ → Slots → Attribute → Type 0
 HasOtherName name pool a = IsSomeAnd (utf8_at pool a.name) (λ other. bytes_eq other name ≡ false)
 
 -- the size of the code, the rows of the exception table, and the attributes inside (JVMS 4.7.3)
-pub record IsRegularCode (pool : Places) (c : CodeAttr) (inner : List Attribute) : Type 0 where
+pub record IsRegularCode (pool : Slots) (c : CodeAttr) (inner : List Attribute) : Type 0 where
   pub size : IsTrue (is_code_size (length c.code))
   pub handlers : AllByRecursion (λ row. IsTrue (is_handler pool (length c.code) row)) c.handlers
   pub inner_names : AllByRecursion (IsSkippable pool) inner
 
 -- of a field's attributes ConstantValue is read, and no other (JVMS 4.7.2)
-abbrev pub IsFieldAttribute : Places → MemberAttribute → Type 0
+abbrev pub IsFieldAttribute : Slots → MemberAttribute → Type 0
 IsFieldAttribute pool (Coded name code inner) = ⊥
 IsFieldAttribute pool (Valued name value) = IsTrue (is_named (codes "ConstantValue") (utf8_at pool name))
 IsFieldAttribute pool (Skipped attribute) = HasOtherName (codes "ConstantValue") pool attribute
 
 -- of a method's attributes Code is read, and no other (JVMS 4.7.3)
-abbrev pub IsMethodAttribute : Places → MemberAttribute → Type 0
+abbrev pub IsMethodAttribute : Slots → MemberAttribute → Type 0
 IsMethodAttribute pool (Coded name code inner) = IsTrue (is_named (codes "Code") (utf8_at pool name)) × IsRegularCode pool code inner
 IsMethodAttribute pool (Valued name value) = ⊥
 IsMethodAttribute pool (Skipped attribute) = HasOtherName (codes "Code") pool attribute
 
 -- a field of a class with these flags (JVMS 4.5)
-pub record IsRegularField (class_flags : ℕ) (pool : Places) (m : MemberLayout) : Type 0 where
+pub record IsRegularField (class_flags : ℕ) (pool : Slots) (m : MemberLayout) : Type 0 where
   pub type : Kind
   pub name : IsSome (utf8_at pool m.name)
   pub descriptor : IsSomeAnd (utf8_at pool m.descriptor) (λ text. IsFieldText text type)
@@ -108,7 +108,7 @@ pub record IsRegularField (class_flags : ℕ) (pool : Places) (m : MemberLayout)
   pub one_value : length (values_in m.attributes) ≤ 1
 
 -- a method of a class with these flags (JVMS 4.6)
-pub record IsRegularMethod (class_flags : ℕ) (pool : Places) (m : MemberLayout) : Type 0 where
+pub record IsRegularMethod (class_flags : ℕ) (pool : Slots) (m : MemberLayout) : Type 0 where
   pub type : Descriptor
   pub name : IsSome (utf8_at pool m.name)
   pub descriptor : IsSomeAnd (utf8_at pool m.descriptor) (λ text. IsMethodText text type)
@@ -119,7 +119,7 @@ pub record IsRegularMethod (class_flags : ℕ) (pool : Places) (m : MemberLayout
   pub special_name : IsTrue (fits_special_name pool (head_of m))
   pub constructor : IsTrue (fits_constructor pool (head_of m) type)
   pub initialiser : IsTrue (fits_initialiser pool (head_of m))
-  pub places : IsTrue (fits_places pool (head_of m) type)
+  pub slots : IsTrue (fits_slots pool (head_of m) type)
   pub attributes : AllByRecursion (IsMethodAttribute pool) m.attributes
   pub one_code : length (codes_in m.attributes) ≡ (if is_abstract m.flags then 0 else 1)
 
@@ -145,7 +145,7 @@ largest = 1048576
 
 -- the bytes are a class file laid out so, and this is its record
 pub record IsLaidOut (bytes : List ℕ) (l : Layout) (file : ClassFile) : Type 0 where
-  pub spelled : bytes ≡ spelling l
+  pub encoded : bytes ≡ encoding l
   pub size : length bytes ≤ largest
   pub fits : FitsLayout l
   pub regular : IsRegular l

@@ -5,7 +5,7 @@ use Rattle.std.specs.Str.{bytes_eq}
 use Rattle.class_pool.specs.declared.descriptor.Kind.{Kind}
 use Rattle.class_pool.specs.declared.descriptor.Kind.TheVariants.{Long, Double}
 use Rattle.class_pool.specs.declared.descriptor.Descriptor.{Descriptor}
-use Rattle.class_pool.specs.Pool.{Places, utf8_at, class_name_at, is_class_at}
+use Rattle.class_pool.specs.Pool.{Slots, utf8_at, class_name_at, is_class_at}
 use Rattle.class_file.specs.declared.head.Head.{Head}
 use Rattle.class_file.specs.declared.record.HandlerRow.{HandlerRow}
 
@@ -55,7 +55,7 @@ is_plain_name None = false
 is_plain_name (Some name) = not (is_array_name name)
 
 -- the entry is a class and no array: this_class, super_class and the interfaces
-abbrev pub names_class : Places → ℕ → Bool
+abbrev pub names_class : Slots → ℕ → Bool
 names_class pool index = is_plain_name (class_name_at pool index)
 
 -- an interface is abstract, and a final class is not
@@ -78,26 +78,26 @@ is_same_text None second = false
 is_same_text (Some first) second = is_named first second
 
 -- two members have the same name and the same descriptor
-abbrev pub is_same_member : Places → Head → Head → Bool
+abbrev pub is_same_member : Slots → Head → Head → Bool
 is_same_member pool first second =
     is_same_text (utf8_at pool first.name) (utf8_at pool second.name) && is_same_text (utf8_at pool first.descriptor) (utf8_at pool second.descriptor)
 
-abbrev pub is_constructor : Places → Head → Bool
+abbrev pub is_constructor : Slots → Head → Bool
 is_constructor pool head = is_named (codes "<init>") (utf8_at pool head.name)
 
-abbrev pub is_initialiser : Places → Head → Bool
+abbrev pub is_initialiser : Slots → Head → Bool
 is_initialiser pool head = is_named (codes "<clinit>") (utf8_at pool head.name)
 
 -- a method of an interface is public and abstract, unless it is its initialiser
-abbrev pub fits_interface_method : ℕ → Places → Head → Bool
+abbrev pub fits_interface_method : ℕ → Slots → Head → Bool
 fits_interface_method class_flags pool head = not (is_interface class_flags) || (is_initialiser pool head || (is_public head.flags && is_abstract head.flags))
 
 -- an initialiser counts as static
-abbrev pub is_static_method : Places → Head → Bool
+abbrev pub is_static_method : Slots → Head → Bool
 is_static_method pool head = is_static head.flags || is_initialiser pool head
 
 -- an abstract method is not private, static or final
-abbrev pub fits_abstract : Places → Head → Bool
+abbrev pub fits_abstract : Slots → Head → Bool
 fits_abstract pool head = not (is_abstract head.flags) || not (is_private head.flags || (is_static_method pool head || is_final head.flags))
 
 -- the name begins as only those of constructors and initialisers do
@@ -106,29 +106,29 @@ is_special_name None = false
 is_special_name (Some name) = starts_with nat_eq name (codes "<")
 
 -- a name that begins so is one of the two (JVMS 2.9)
-abbrev pub fits_special_name : Places → Head → Bool
+abbrev pub fits_special_name : Slots → Head → Bool
 fits_special_name pool head = not (is_special_name (utf8_at pool head.name)) || (is_constructor pool head || is_initialiser pool head)
 
 -- a constructor is not static or abstract, and has no result
-abbrev pub fits_constructor : Places → Head → Descriptor → Bool
+abbrev pub fits_constructor : Slots → Head → Descriptor → Bool
 fits_constructor pool head type = not (is_constructor pool head) || (not (is_static head.flags) && (not (is_abstract head.flags) && is_none type.result))
 
 -- an initialiser has no parameters and no result
-abbrev pub fits_initialiser : Places → Head → Bool
+abbrev pub fits_initialiser : Slots → Head → Bool
 fits_initialiser pool head = not (is_initialiser pool head) || is_named (codes "()V") (utf8_at pool head.descriptor)
 
 -- a long or a double takes two argument places (JVMS 4.3.3)
-abbrev pub places_of : Kind → ℕ
-places_of Long = 2
-places_of Double = 2
-places_of _ = 1
+abbrev pub slots_of : Kind → ℕ
+slots_of Long = 2
+slots_of Double = 2
+slots_of _ = 1
 
 -- the argument places of a method, `this` counted
-abbrev pub argument_places : Bool → Descriptor → ℕ
-argument_places static type = (if static then 0 else 1) + sum_by places_of type.params
+abbrev pub argument_slots : Bool → Descriptor → ℕ
+argument_slots static type = (if static then 0 else 1) + sum_by slots_of type.params
 
-abbrev pub fits_places : Places → Head → Descriptor → Bool
-fits_places pool head type = nat_le (argument_places (is_static_method pool head) type) 255
+abbrev pub fits_slots : Slots → Head → Descriptor → Bool
+fits_slots pool head type = nat_le (argument_slots (is_static_method pool head) type) 255
 
 -- ---- code (JVMS 4.7.3)
 
@@ -137,9 +137,9 @@ abbrev pub is_code_size : ℕ → Bool
 is_code_size size = nat_lt 0 size && nat_lt size 65536
 
 -- 0, or the index of a class
-abbrev pub is_catch_type : Places → ℕ → Bool
+abbrev pub is_catch_type : Slots → ℕ → Bool
 is_catch_type pool index = index == 0 || is_class_at pool index
 
 -- a row of the exception table covers some of the code, and leads into it
-abbrev pub is_handler : Places → ℕ → HandlerRow → Bool
+abbrev pub is_handler : Slots → ℕ → HandlerRow → Bool
 is_handler pool size row = (nat_lt row.start row.end && nat_le row.end size) && (nat_lt row.target size && is_catch_type pool row.catch_type)

@@ -8,20 +8,20 @@ use Rattle.std.specs.declared.cmp.Ordering.{Ordering}
 use Rattle.std.specs.Ordering.{nat_cmp, ordering_then}
 use Rattle.std.specs.Cmp.Lexicographic.{slice_cmp}
 use Rattle.class_pool.specs.declared.descriptor.Descriptor.{Descriptor}
-use Rattle.class_pool.specs.Pool.{Places, utf8_at}
+use Rattle.class_pool.specs.Pool.{Slots, utf8_at}
 use Rattle.class_pool.specs.DescriptorReading.{field_of, method_of}
 use Rattle.class_file.specs.declared.head.Head.{Head}
 use Rattle.class_file.specs.declared.record.Member.{Member}
 use Rattle.class_file.specs.declared.texts.MethodShape.{MethodShape}
 use Rattle.class_file.specs.declared.texts.TextRow.{TextRow}
-use Rattle.class_file.specs.Rules.{places_of}
+use Rattle.class_file.specs.Rules.{slots_of}
 use Rattle.class_file.specs.ReadingMembers.{is_declared}
 
 -- ---- what a table says
 
 -- the argument places of a method, without `this`, up to 256, and whether there is a result
 abbrev pub shape_of : Descriptor → MethodShape
-shape_of type = record { places = min 256 (sum_by places_of type.params); has_result = is_some type.result }
+shape_of type = record { slots = min 256 (sum_by slots_of type.params); has_result = is_some type.result }
 
 -- what a row says, where there is one
 abbrev pub same_in : Option TextRow → ℕ
@@ -51,7 +51,7 @@ shape_at rows index = shape_in (slice_get rows index)
 
 -- at two indexes stands the same text exactly where the same index stands for both, and each descriptor
 -- is told as what it is
-pub record AreTexts (pool : Places) (rows : List TextRow) : Type 0 where
+pub record AreTexts (pool : Slots) (rows : List TextRow) : Type 0 where
   pub same_text : (index : ℕ) → utf8_at pool (same_at rows index) ≡ utf8_at pool index
   pub one_index : (first second : ℕ) → utf8_at pool first ≡ utf8_at pool second → same_at rows first ≡ same_at rows second
   pub fields : (index : ℕ) → is_field_at rows index ≡ is_some (option_and_then field_of (utf8_at pool index))
@@ -64,7 +64,7 @@ abbrev pub number_in : BTreeMap (Bor (List ℕ)) ℕ → List ℕ → Option ℕ
 number_in numbers text = get_by (λ key. slice_cmp nat_cmp text key.now) numbers
 
 -- each text has an index of its own, where it stands
-pub record AreNumbered (pool : Places) (number : List ℕ → Option ℕ) : Type 0 where
+pub record AreNumbered (pool : Slots) (number : List ℕ → Option ℕ) : Type 0 where
   pub named : (text : List ℕ) (index : ℕ) → number text ≡ Some index → utf8_at pool index ≡ Some text
   pub all : (index : ℕ) (text : List ℕ) → utf8_at pool index ≡ Some text → IsSome (number text)
 
@@ -80,7 +80,7 @@ row_of number None = no_row
 row_of number (Some text) = text_row number text
 
 -- the row of an index
-abbrev pub row_at : Places → (List ℕ → Option ℕ) → ℕ → TextRow
+abbrev pub row_at : Slots → (List ℕ → Option ℕ) → ℕ → TextRow
 row_at pool number index = row_of number (utf8_at pool index)
 
 -- ---- the members that were read
@@ -96,6 +96,6 @@ abbrev pub is_seen : List TextRow → BTreeSet (ℕ × ℕ) → Head → Bool
 is_seen rows seen head = contains signature_cmp seen (signature_of rows head)
 
 -- a head of a name and a descriptor was seen exactly where one of the same stands among the earlier members
-abbrev pub AreSeen : Places → List TextRow → List Member → BTreeSet (ℕ × ℕ) → Type 0
+abbrev pub AreSeen : Slots → List TextRow → List Member → BTreeSet (ℕ × ℕ) → Type 0
 AreSeen pool rows earlier seen =
     (head : Head) → IsSome (utf8_at pool head.name) → IsSome (utf8_at pool head.descriptor) → is_seen rows seen head ≡ is_declared pool earlier head

@@ -30,7 +30,7 @@ pub(crate) fn info_at(bytes: &[u8]) -> Result<(&[u8], &[u8]), ReadRefusal>
     slice_at(size as usize, rest)
 }
 
-/// What stands behind an attribute of which only the name is asked.
+/// What follows an attribute of which only the name is asked.
 #[tactic(auto, unfolding(crate::specs::ReadingMembers::skip_at))]
 fn skip_at<'a>(pool: &Pool, bytes: &'a [u8]) -> Result<&'a [u8], ReadRefusal>
     ensures { Gives (λ rest. rest.now) result (skip_at pool.now bytes.now) }
@@ -40,7 +40,7 @@ fn skip_at<'a>(pool: &Pool, bytes: &'a [u8]) -> Result<&'a [u8], ReadRefusal>
     Ok(rest)
 }
 
-/// What stands behind so many attributes.
+/// What follows so many attributes.
 fn skip_many<'a>(pool: &Pool, count: u16, bytes: &'a [u8]) -> Result<&'a [u8], ReadRefusal>
     ensures { Gives (λ rest. (tt, rest.now)) result (steps_at (skipped pool.now) tt count bytes.now) }
 {
@@ -51,7 +51,7 @@ fn skip_many<'a>(pool: &Pool, count: u16, bytes: &'a [u8]) -> Result<&'a [u8], R
     Ok(rest)
 }
 
-/// What stands behind a list of attributes, with its count.
+/// What follows a list of attributes, with its count.
 #[tactic(auto, unfolding(crate::specs::ReadingMembers::skip_all_at, crate::specs::Reading::counted_at))]
 pub(crate) fn skip_all_at<'a>(pool: &Pool, bytes: &'a [u8]) -> Result<&'a [u8], ReadRefusal>
     ensures { Gives (λ rest. rest.now) result (skip_all_at pool.now bytes.now) }

@@ -142,7 +142,7 @@ fn whole_code(alloc: Global, pool: &Pool, bytes: &[u8]) -> Result<CodeAttr, Read
     }
 }
 
-/// What stands behind the name `Code`.
+/// What follows the name `Code`.
 #[tactic(auto, unfolding(crate::specs::ReadingMembers::code_at))]
 pub(crate) fn code_at<'a>(
     alloc: Global,

@@ -6,7 +6,7 @@ ghost use Rattle.class_file.specs.Reading.{Gives, u2_at, u4_at, slice_at};
 use crate::refusal::ReadRefusal;
 use byteorder::{BigEndian, ByteOrder};
 
-/// A `u2`, and the bytes behind it.
+/// A `u2`, and the bytes after it.
 #[tactic(auto, unfolding(crate::specs::Reading::u2_at))]
 pub(crate) fn u2_at(bytes: &[u8]) -> Result<(u16, &[u8]), ReadRefusal>
     ensures { Gives (λ x. (x.0, x.1.now)) result (u2_at bytes.now) }

@@ -1,4 +1,4 @@
-/// What stands in front of the attributes of a field or a method (JVMS 4.5, 4.6).
+/// What stands before the attributes of a field or a method (JVMS 4.5, 4.6).
 #[derive(Clone, Copy, Debug)]
 pub(crate) struct Head {
     pub(crate) flags: u16,

@@ -1,11 +1,11 @@
-ghost use Rattle.class_file.specs.Fronts.{FaultsStand, FrontsAreTruncated, FrontsOfFaults, FrontsOfTruncated, NoneBeginsWithFaults};
+ghost use Rattle.class_file.specs.Prefixes.{FaultsHold, PrefixesAreTruncated, PrefixesOfFaults, PrefixesOfTruncated, NoneBeginsWithFaults};
 
-/// A class file that is cut off is truncated, a fault stands whatever follows it, and in front of the first
+/// A class file that is cut off is truncated, a fault stands whatever follows it, and before the first
 /// fault there is no other.
-pub fn fronts_decide()
-    ensures cut { FrontsAreTruncated }
-    ensures stands { FaultsStand }
+pub fn prefixes_decide()
+    ensures cut { PrefixesAreTruncated }
+    ensures stands { FaultsHold }
     ensures none { NoneBeginsWithFaults }
-    ensures first { FrontsOfFaults }
-    ensures truncated { FrontsOfTruncated }
+    ensures first { PrefixesOfFaults }
+    ensures truncated { PrefixesOfTruncated }
 {}

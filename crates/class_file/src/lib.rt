@@ -1,6 +1,6 @@
 //! From the bytes of a class file (JVMS chapter 4) to its record, exactly. The main call is
 //! `read_class`. What stands between the bytes and the record is the class file relation, in
-//! specs/Relation.antt: the bytes are the spelling of a layout, the layout keeps the rules, and the
+//! specs/Relation.antt: the bytes are the encoding of a layout, the layout keeps the rules, and the
 //! record is that of the layout. Why other bytes are refused is in specs/Refused.antt, and the order in
 //! which faults are found in specs/ReadingClass.antt. A table of the pool's texts, in specs/Texts.antt,
 //! keeps the cost in proportion to the bytes. `is_one_main` tells the class files of one main,
@@ -32,7 +32,7 @@ mod seen;
 mod tests;
 mod texts;
 
-pub use laws::fronts_decide;
+pub use laws::prefixes_decide;
 pub use one_main::is_one_main;
 pub use read::read_class;
 pub use record::{ClassFile, CodeAttr, HandlerRow, Member};

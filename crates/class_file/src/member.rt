@@ -22,7 +22,7 @@ use item_list::Items;
 use std::alloc::Global;
 use std::collections::BTreeSet;
 
-/// What stands behind the name `ConstantValue` (JVMS 4.7.2).
+/// What follows the name `ConstantValue` (JVMS 4.7.2).
 #[tactic(auto, unfolding(crate::specs::ReadingMembers::value_at))]
 fn value_at(bytes: &[u8]) -> Result<(u16, &[u8]), ReadRefusal>
     ensures { Gives (λ x. (x.0, x.1.now)) result (value_at bytes.now) }
@@ -34,7 +34,7 @@ fn value_at(bytes: &[u8]) -> Result<(u16, &[u8]), ReadRefusal>
     Ok((BigEndian::read_u16(info), rest))
 }
 
-/// An attribute of a field, behind others of which one may have been `ConstantValue`.
+/// An attribute of a field, after others of which one may have been `ConstantValue`.
 #[tactic(auto, unfolding(crate::specs::ReadingMembers::field_attribute_at))]
 fn field_attribute_at<'a>(
     pool: &Pool,
@@ -85,7 +85,7 @@ fn field_attributes_at<'a>(
     field_attributes(pool, count, rest)
 }
 
-/// An attribute of a method, behind others of which one may have been `Code`.
+/// An attribute of a method, after others of which one may have been `Code`.
 #[tactic(auto, unfolding(crate::specs::ReadingMembers::method_attribute_at))]
 fn method_attribute_at<'a>(
     alloc: Global,
@@ -216,7 +216,7 @@ fn method_head_at<'a>(
     Ok((head, rest))
 }
 
-/// A field of a class with these flags, behind the earlier ones.
+/// A field of a class with these flags, after the earlier ones.
 #[tactic(auto, unfolding(crate::specs::ReadingMembers::field_at))]
 fn field_at<'a>(
     class_flags: u16,
@@ -242,7 +242,7 @@ fn field_at<'a>(
     Ok((field, rest))
 }
 
-/// A method of a class with these flags, behind the earlier ones.
+/// A method of a class with these flags, after the earlier ones.
 #[tactic(auto, unfolding(crate::specs::ReadingMembers::method_at))]
 fn method_at<'a>(
     alloc: Global,

@@ -8,13 +8,13 @@ use std::test::*;
 /// How many fields of different names a class with many fields has.
 const MANY: u16 = 2_000;
 
-/// What a class file of version 52 with these bytes behind the pool is refused for. The pool is `POOL`
-/// with three more entries: 23 `f`, 24 `I` and 25 `()V`, which stand at 9, 10 and 11 too.
-fn refusal_of(alloc: Global, behind: &[u8]) -> Result<Option<ReadRefusal>, AllocError> {
+/// What a class file of version 52 with these bytes after the pool is refused for. The pool is `POOL`
+/// with three more entries: 23 `f`, 24 `I` and 25 `()V`, which are at 9, 10 and 11 too.
+fn refusal_of(alloc: Global, suffix: &[u8]) -> Result<Option<ReadRefusal>, AllocError> {
     let mut bytes = Vec::from_slice(alloc, b"\xca\xfe\xba\xbe\x00\x00\x00\x34\x00\x1a")?;
     bytes.extend_from_slice(&POOL[2..])?;
     bytes.extend_from_slice(b"\x01\x00\x01f\x01\x00\x01I\x01\x00\x03()V")?;
-    bytes.extend_from_slice(behind)?;
+    bytes.extend_from_slice(suffix)?;
     Ok(read_class(alloc, bytes.as_slice()).err())
 }
 
@@ -57,8 +57,8 @@ fn compares_members_by_their_texts(rt: HostRuntime) -> Result<(), Fail> {
             None,
         ),
     ];
-    for (name, behind, want) in cases {
-        assert_eq!(rt; refusal_of(rt.alloc(), behind)?, want, "{name}");
+    for (name, suffix, want) in cases {
+        assert_eq!(rt; refusal_of(rt.alloc(), suffix)?, want, "{name}");
     }
     Ok(())
 }

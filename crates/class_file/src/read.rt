@@ -66,7 +66,7 @@ fn pool_at(alloc: Global, bytes: &[u8]) -> Result<(Pool, &[u8]), ReadRefusal>
     ensures { Gives (λ x. (x.0, x.1.now)) result (pool_at bytes.now) }
 {
     match read_pool(alloc, bytes, 0) {
-        Ok((pool, behind)) => Ok((pool, &bytes[behind..])),
+        Ok((pool, suffix)) => Ok((pool, &bytes[suffix..])),
         Err(why) => Err(of_pool(why)),
     }
 }
@@ -167,7 +167,7 @@ fn members_at<'a>(
     Ok(((fields, methods), rest))
 }
 
-/// What stands behind the magic.
+/// What follows the magic.
 #[tactic(auto, unfolding(crate::specs::ReadingClass::body_of))]
 fn body_of(alloc: Global, bytes: &[u8]) -> Result<ClassFile, ReadRefusal>
     ensures { Gives (λ x. x) result (body_of bytes.now) }

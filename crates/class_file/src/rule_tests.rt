@@ -1,22 +1,22 @@
 //! The rules of the shape of a class file (JVMS 4.1, 4.5 to 4.7), each kept and each broken, by the
-//! bytes behind the pool.
+//! bytes after the pool.
 
 use super::*;
 use crate::samples::POOL;
 use std::alloc::{AllocError, Global};
 use std::test::*;
 
-/// A class file of version 52 with the pool `POOL`, and these bytes behind it.
-fn with_pool(alloc: Global, behind: &[u8]) -> Result<Vec<u8>, AllocError> {
+/// A class file of version 52 with the pool `POOL`, and these bytes after it.
+fn with_pool(alloc: Global, suffix: &[u8]) -> Result<Vec<u8>, AllocError> {
     let mut bytes = Vec::from_slice(alloc, b"\xca\xfe\xba\xbe\x00\x00\x00\x34")?;
     bytes.extend_from_slice(&POOL)?;
-    bytes.extend_from_slice(behind)?;
+    bytes.extend_from_slice(suffix)?;
     Ok(bytes)
 }
 
-/// What a class file with the pool `POOL` and these bytes behind it is refused for.
-fn refusal_of(alloc: Global, behind: &[u8]) -> Result<Option<ReadRefusal>, AllocError> {
-    let bytes = with_pool(alloc, behind)?;
+/// What a class file with the pool `POOL` and these bytes after it is refused for.
+fn refusal_of(alloc: Global, suffix: &[u8]) -> Result<Option<ReadRefusal>, AllocError> {
+    let bytes = with_pool(alloc, suffix)?;
     Ok(read_class(alloc, bytes.as_slice()).err())
 }
 
@@ -109,8 +109,8 @@ fn keeps_the_rules_of_the_class(rt: HostRuntime) -> Result<(), Fail> {
             Some(ReadRefusal::BadShape),
         ),
     ];
-    for (name, behind, want) in cases {
-        assert_eq!(rt; refusal_of(rt.alloc(), behind)?, want, "{name}");
+    for (name, suffix, want) in cases {
+        assert_eq!(rt; refusal_of(rt.alloc(), suffix)?, want, "{name}");
     }
     Ok(())
 }
@@ -234,8 +234,8 @@ fn keeps_the_rules_of_fields(rt: HostRuntime) -> Result<(), Fail> {
             Some(ReadRefusal::BadShape),
         ),
     ];
-    for (name, behind, want) in cases {
-        assert_eq!(rt; refusal_of(rt.alloc(), behind)?, want, "{name}");
+    for (name, suffix, want) in cases {
+        assert_eq!(rt; refusal_of(rt.alloc(), suffix)?, want, "{name}");
     }
     Ok(())
 }
@@ -409,8 +409,8 @@ fn keeps_the_rules_of_methods(rt: HostRuntime) -> Result<(), Fail> {
             Some(ReadRefusal::BadShape),
         ),
     ];
-    for (name, behind, want) in cases {
-        assert_eq!(rt; refusal_of(rt.alloc(), behind)?, want, "{name}");
+    for (name, suffix, want) in cases {
+        assert_eq!(rt; refusal_of(rt.alloc(), suffix)?, want, "{name}");
     }
     Ok(())
 }
@@ -514,8 +514,8 @@ fn keeps_the_rules_of_code(rt: HostRuntime) -> Result<(), Fail> {
             Some(ReadRefusal::BadShape),
         ),
     ];
-    for (name, behind, want) in cases {
-        assert_eq!(rt; refusal_of(rt.alloc(), behind)?, want, "{name}");
+    for (name, suffix, want) in cases {
+        assert_eq!(rt; refusal_of(rt.alloc(), suffix)?, want, "{name}");
     }
     Ok(())
 }
@@ -599,8 +599,8 @@ fn tests_each_rule_where_its_last_byte_is(rt: HostRuntime) -> Result<(), Fail> {
             Some(ReadRefusal::BadShape),
         ),
     ];
-    for (name, behind, want) in cases {
-        assert_eq!(rt; refusal_of(rt.alloc(), behind)?, want, "{name}");
+    for (name, suffix, want) in cases {
+        assert_eq!(rt; refusal_of(rt.alloc(), suffix)?, want, "{name}");
     }
     Ok(())
 }

@@ -1,9 +1,9 @@
 //! The rules of the flags, names and descriptors of fields and methods (JVMS 4.5, 4.6), as far as a
-//! member shows them in front of its attributes.
+//! member shows them before its attributes.
 
 ghost use Rattle.std.specs.Prelude.{◌≡◌};
 ghost use Rattle.class_pool.specs.declared.descriptor.Descriptor.{Descriptor as Record};
-ghost use Rattle.class_file.specs.Rules.{is_constructor, is_initialiser, fits_interface_method, is_static_method, fits_abstract, fits_special_name, fits_constructor, fits_initialiser, fits_places};
+ghost use Rattle.class_file.specs.Rules.{is_constructor, is_initialiser, fits_interface_method, is_static_method, fits_abstract, fits_special_name, fits_constructor, fits_initialiser, fits_slots};
 ghost use Rattle.class_file.specs.ReadingMembers.{is_field_head, is_method_head};
 ghost use Rattle.class_file.specs.Texts.{shape_of};
 
@@ -84,15 +84,15 @@ fn fits_initialiser(pool: &Pool, head: Head) -> bool
 }
 
 /// The parameters, and `this` where there is one, take at most 255 argument places (JVMS 4.3.3).
-fn fits_places(pool: &Pool, head: Head, shape: MethodShape) -> bool
-    ensures { (type : Record) → shape ≡ shape_of type → result ≡ fits_places pool.now head type }
+fn fits_slots(pool: &Pool, head: Head, shape: MethodShape) -> bool
+    ensures { (type : Record) → shape ≡ shape_of type → result ≡ fits_slots pool.now head type }
 {
     let most = if is_static_method(pool, head) {
         255
     } else {
         254
     };
-    shape.places <= most
+    shape.slots <= most
 }
 
 /// The flags, the name and the descriptor of a method go together.
@@ -106,5 +106,5 @@ pub(crate) fn is_method_head(class_flags: u16, pool: &Pool, head: Head, shape: M
         && fits_special_name(pool, head)
         && fits_constructor(pool, head, shape)
         && fits_initialiser(pool, head)
-        && fits_places(pool, head, shape)
+        && fits_slots(pool, head, shape)
 }

@@ -1,7 +1,7 @@
 //! The bytes of class files (JVMS chapter 4) for the tests.
 
 /// Writes `Hi`: `public static void main() { mote.Console.write('H'); mote.Console.write('i'); }`.
-/// The pool begins at 10, what stands behind it at 103, main at 115, its attribute at 123, and the
+/// The pool begins at 10, what follows it at 103, main at 115, its attribute at 123, and the
 /// code at 137.
 pub(crate) const HI: [u8; 154] = [
     0xca, 0xfe, 0xba, 0xbe, 0x00, 0x00, 0x00, 0x34, 0x00, 0x0e, 0x01, 0x00, 0x02, 0x48, 0x69, 0x07,

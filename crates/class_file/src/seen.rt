@@ -18,7 +18,7 @@ use std::collections::BTreeSet;
 /// The names and descriptors of the members that were read, each by the index that stands for its text.
 pub(crate) type Seen = BTreeSet<(u16, u16)>;
 
-/// What stands in front of the attributes of a member.
+/// What stands before the attributes of a member.
 fn head_in(member: &Member) -> Head
     ensures { result ≡ head_in member.now }
 {

@@ -49,10 +49,10 @@ fn refuses_each_part_of_a_class(rt: HostRuntime) -> Result<(), Fail> {
 
 #[test]
 fn answers_each_change_of_one_byte(rt: HostRuntime) {
-    for place in 0..154 {
+    for offset in 0..154 {
         for change in 1..=255 {
             let mut bytes = HI;
-            bytes[place] ^= change;
+            bytes[offset] ^= change;
             let got = read_class(rt.alloc(), &bytes).err();
             assert!(rt; got != Some(ReadRefusal::Memory), "at {place}");
         }
@@ -60,7 +60,7 @@ fn answers_each_change_of_one_byte(rt: HostRuntime) {
 }
 
 #[test]
-fn names_the_first_fault_of_the_front(rt: HostRuntime) {
+fn names_the_first_fault_of_the_prefix(rt: HostRuntime) {
     let bad = |index| Some(ReadRefusal::BadPool { index });
     let edits = [
         ("first version", 7, 45, None),
@@ -99,10 +99,10 @@ fn names_the_first_fault_of_the_front(rt: HostRuntime) {
             Some(ReadRefusal::BadShape),
         ),
     ];
-    for (name, place, byte, want) in edits {
+    for (name, offset, byte, want) in edits {
         let mut bytes = HI;
-        assert!(rt; place < 154);
-        bytes[place] = byte;
+        assert!(rt; offset < 154);
+        bytes[offset] = byte;
         assert_eq!(rt; read_class(rt.alloc(), &bytes).err(), want, "{name}");
     }
 }
@@ -119,11 +119,11 @@ fn keeps_the_size_of_a_file(rt: HostRuntime) -> Result<(), Fail> {
         read_class(rt.alloc(), bytes.as_slice()).err(),
         Some(ReadRefusal::TooLarge { length: 1_048_577 })
     );
-    let mut behind = Vec::from_slice(rt.alloc(), &HI)?;
+    let mut suffix = Vec::from_slice(rt.alloc(), &HI)?;
     let tail = zeros(rt.alloc(), 4000)?;
-    behind.extend_from_slice(tail.as_slice())?;
+    suffix.extend_from_slice(tail.as_slice())?;
     assert_eq!(rt;
-        read_class(rt.alloc(), behind.as_slice()).err(),
+        read_class(rt.alloc(), suffix.as_slice()).err(),
         Some(ReadRefusal::TrailingBytes { count: 1_024_000 })
     );
     Ok(())
@@ -230,10 +230,10 @@ fn tells_a_class_of_one_main(rt: HostRuntime) -> Result<(), Fail> {
         ("main is not public", 116, 8),
         ("main has another name", 118, 7),
     ];
-    for (name, place, byte) in edits {
+    for (name, offset, byte) in edits {
         let mut bytes = HI;
-        assert!(rt; place < 154);
-        bytes[place] = byte;
+        assert!(rt; offset < 154);
+        bytes[offset] = byte;
         if let Ok(class) = read_class(rt.alloc(), &bytes) {
             assert!(rt; !is_one_main(&class), "{name}");
         }

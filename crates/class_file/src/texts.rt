@@ -4,7 +4,7 @@
 ghost use Rattle.std.specs.Prelude.{◌≡◌, Ok, IfOk, IfErr, min, sum_by, is_some, unwrap_or, option_map};
 ghost use Rattle.class_pool.specs.DescriptorReading.{field_of, method_of};
 ghost use Rattle.class_file.specs.declared.refusal.ReadRefusal.TheVariants.{Memory};
-ghost use Rattle.class_file.specs.Rules.{places_of};
+ghost use Rattle.class_file.specs.Rules.{slots_of};
 ghost use Rattle.class_file.specs.Reading.{Gives};
 ghost use Rattle.class_file.specs.Texts.{shape_of, same_at, is_field_at, shape_at, AreTexts, number_in, AreNumbered, text_row, row_at};
 
@@ -20,11 +20,11 @@ use std::collections::BTreeMap;
 #[derive(Clone, Copy, Debug)]
 pub(crate) struct MethodShape {
     /// How many argument places the parameters take, up to 256, which stands for more too.
-    pub(crate) places: u16,
+    pub(crate) slots: u16,
     pub(crate) has_result: bool,
 }
 
-/// What stands at an index of the pool.
+/// What is at an index of the pool.
 #[derive(Clone, Copy, Debug)]
 pub(crate) struct TextRow {
     /// The index that stands for the text, wherever it is; 0 where no text is.
@@ -39,8 +39,8 @@ pub(crate) struct TextRow {
 pub(crate) type Texts = Items<TextRow>;
 
 /// How many argument places a parameter takes (JVMS 4.3.3).
-fn places_of(kind: &Kind) -> u8
-    ensures { result ≡ places_of kind.now }
+fn slots_of(kind: &Kind) -> u8
+    ensures { result ≡ slots_of kind.now }
 {
     match kind {
         Kind::Long | Kind::Double => 2,
@@ -49,14 +49,14 @@ fn places_of(kind: &Kind) -> u8
 }
 
 /// How many argument places the parameters take, up to 256.
-fn places_in(kinds: &[Kind]) -> u16
-    ensures { result ≡ min 256 (sum_by places_of kinds.now) }
+fn slots_in(kinds: &[Kind]) -> u16
+    ensures { result ≡ min 256 (sum_by slots_of kinds.now) }
 {
-    let mut places = 0;
+    let mut slots = 0;
     for kind in kinds {
-        places = (places + u16::from(places_of(kind))).min(256);
+        slots = (slots + u16::from(slots_of(kind))).min(256);
     }
-    places
+    slots
 }
 
 /// What the rules of a method ask of its descriptor.
@@ -64,7 +64,7 @@ fn shape_of(descriptor: &Descriptor) -> MethodShape
     ensures { result ≡ shape_of descriptor.now }
 {
     MethodShape {
-        places: places_in(descriptor.params.as_slice()),
+        slots: slots_in(descriptor.params.as_slice()),
         has_result: descriptor.result.is_some(),
     }
 }

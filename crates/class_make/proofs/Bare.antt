@@ -4,7 +4,7 @@ use Rattle.std.proofs.Common.{◌≡◌, ℕ, ◌+◌, ◌^◌, ◌<◌, ◌≤�
 use Rattle.std.specs.Prelude.{codes}
 use Rattle.std.specs.List.{flat_map, AllByRecursion}
 use Rattle.std.proofs.lemmas.List.{append-nil}
-use Rattle.class_pool.specs.Pool.{Places}
+use Rattle.class_pool.specs.Pool.{Slots}
 use Rattle.class_file.specs.declared.record.CodeAttr.{CodeAttr}
 use Rattle.class_file.specs.declared.record.Member.{Member}
 use Rattle.class_file.specs.Rules.{is_abstract}
@@ -54,10 +54,10 @@ attribute_length a =
     omega (arith, length-append (u2 a.name) (u4 (length a.info) ++ a.info), length-append (u4 (length a.info)) a.info, u2_length a.name, u4_length (length a.info))
 
 -- what stands before the attributes inside Code
-abbrev code_front : CodeAttr → List ℕ
-code_front c = u2 c.max_stack ++ (u2 c.max_locals ++ (u4 (length c.code) ++ (c.code ++ counted handler_bytes c.handlers)))
+abbrev code_prefix : CodeAttr → List ℕ
+code_prefix c = u2 c.max_stack ++ (u2 c.max_locals ++ (u4 (length c.code) ++ (c.code ++ counted handler_bytes c.handlers)))
 
-code_length : (c : CodeAttr) (inner : List Attribute) → length (code_info c inner) ≡ length (code_front c) + length (counted attribute_bytes inner)
+code_length : (c : CodeAttr) (inner : List Attribute) → length (code_info c inner) ≡ length (code_prefix c) + length (counted attribute_bytes inner)
 code_length c inner = simp length-append (omega arith)
 
 info_shorter : (c : CodeAttr) (inner : List Attribute) → length (code_info c []) ≤ length (code_info c inner)
@@ -112,22 +112,22 @@ bare_fits v c (Skipped attribute ∷ others) v_fits c_fits f = bare_fits v c oth
 
 -- ---- they keep the rules
 
-abbrev value_name : Places → ℕ
+abbrev value_name : Slots → ℕ
 value_name pool = text_index pool (codes "ConstantValue")
 
-abbrev code_name : Places → ℕ
+abbrev code_name : Slots → ℕ
 code_name pool = text_index pool (codes "Code")
 
-abbrev bare_in : Places → List MemberAttribute → List MemberAttribute
+abbrev bare_in : Slots → List MemberAttribute → List MemberAttribute
 bare_in pool attributes = bare (value_name pool) (code_name pool) attributes
 
-field_rules : (pool : Places) (attributes : List MemberAttribute) → AllByRecursion (IsFieldAttribute pool) attributes → AllByRecursion (IsFieldAttribute pool) (bare_in pool attributes)
+field_rules : (pool : Slots) (attributes : List MemberAttribute) → AllByRecursion (IsFieldAttribute pool) attributes → AllByRecursion (IsFieldAttribute pool) (bare_in pool attributes)
 field_rules pool [] r = tt
 field_rules pool (Coded name code inner ∷ others) r = absurd r.0
 field_rules pool (Valued name value ∷ others) r = (named_again pool (codes "ConstantValue") name r.0, field_rules pool others r.1)
 field_rules pool (Skipped attribute ∷ others) r = field_rules pool others r.1
 
-method_rules : (pool : Places) (attributes : List MemberAttribute) → AllByRecursion (IsMethodAttribute pool) attributes → AllByRecursion (IsMethodAttribute pool) (bare_in pool attributes)
+method_rules : (pool : Slots) (attributes : List MemberAttribute) → AllByRecursion (IsMethodAttribute pool) attributes → AllByRecursion (IsMethodAttribute pool) (bare_in pool attributes)
 method_rules pool [] r = tt
 method_rules pool (Coded name code inner ∷ others) r =
     ((named_again pool (codes "Code") name r.0.0, record { size = r.0.1.size; handlers = r.0.1.handlers; inner_names = tt }), method_rules pool others r.1)
@@ -137,7 +137,7 @@ method_rules pool (Skipped attribute ∷ others) r = method_rules pool others r.
 -- ---- they are those of the record
 
 -- the attributes of a field are its values, and those of a method its codes
-only_values : (pool : Places) (v c : ℕ) (attributes : List MemberAttribute) → AllByRecursion (IsFieldAttribute pool) attributes
+only_values : (pool : Slots) (v c : ℕ) (attributes : List MemberAttribute) → AllByRecursion (IsFieldAttribute pool) attributes
     → (bare v c attributes ≡ map (λ (value : ℕ). Valued v value) (values_in attributes)) × (codes_in attributes ≡ [])
 only_values pool v c [] r = (refl, refl)
 only_values pool v c (Coded name code inner ∷ others) r = absurd r.0
@@ -145,7 +145,7 @@ only_values pool v c (Valued name value ∷ others) r =
     let o = only_values pool v c others r.1 in (ap (λ (others : List MemberAttribute). Valued v value ∷ others) o.0, o.1)
 only_values pool v c (Skipped attribute ∷ others) r = only_values pool v c others r.1
 
-only_codes : (pool : Places) (v c : ℕ) (attributes : List MemberAttribute) → AllByRecursion (IsMethodAttribute pool) attributes
+only_codes : (pool : Slots) (v c : ℕ) (attributes : List MemberAttribute) → AllByRecursion (IsMethodAttribute pool) attributes
     → (bare v c attributes ≡ map (λ (code : CodeAttr). Coded c code []) (codes_in attributes)) × (values_in attributes ≡ [])
 only_codes pool v c [] r = (refl, refl)
 only_codes pool v c (Coded name code inner ∷ others) r =
@@ -168,13 +168,13 @@ one_code c (code ∷ other ∷ others) le = absurd (omega (arith, le))
 abbrev pub bare_member : ℕ → ℕ → MemberLayout → MemberLayout
 bare_member v c m = record { flags = m.flags; name = m.name; descriptor = m.descriptor; attributes = bare v c m.attributes }
 
-abbrev pub bare_member_in : Places → MemberLayout → MemberLayout
+abbrev pub bare_member_in : Slots → MemberLayout → MemberLayout
 bare_member_in pool m = bare_member (value_name pool) (code_name pool) m
 
 abbrev with_attributes : MemberLayout → List MemberAttribute → MemberLayout
 with_attributes m attributes = record { flags = m.flags; name = m.name; descriptor = m.descriptor; attributes = attributes }
 
-pub field_is : (class_flags : ℕ) (pool : Places) (v c : ℕ) (m : MemberLayout) → IsRegularField class_flags pool m → member_layout v c (member_of m) ≡ bare_member v c m
+pub field_is : (class_flags : ℕ) (pool : Slots) (v c : ℕ) (m : MemberLayout) → IsRegularField class_flags pool m → member_layout v c (member_of m) ≡ bare_member v c m
 field_is class_flags pool v c m r =
     let o = only_values pool v c m.attributes r.attributes in
     let values : bare v c m.attributes ≡ value_attribute v (first (values_in m.attributes)) = o.0 ∙ one_value v (values_in m.attributes) r.one_value in
@@ -188,7 +188,7 @@ count_small : (abstract : Bool) → count_for abstract ≤ 1
 count_small true = omega arith
 count_small false = omega arith
 
-pub method_is : (class_flags : ℕ) (pool : Places) (v c : ℕ) (m : MemberLayout) → IsRegularMethod class_flags pool m → member_layout v c (member_of m) ≡ bare_member v c m
+pub method_is : (class_flags : ℕ) (pool : Slots) (v c : ℕ) (m : MemberLayout) → IsRegularMethod class_flags pool m → member_layout v c (member_of m) ≡ bare_member v c m
 method_is class_flags pool v c m r =
     let o = only_codes pool v c m.attributes r.attributes in
     let few : length (codes_in m.attributes) ≤ 1 = omega (arith, r.one_code, count_small (is_abstract m.flags)) in
@@ -212,7 +212,7 @@ member_fits v c m v_fits c_fits f = record {
   attributes = bare_fits v c m.attributes v_fits c_fits f.attributes;
 }
 
-pub field_regular : (class_flags : ℕ) (pool : Places) (m : MemberLayout) → IsRegularField class_flags pool m → IsRegularField class_flags pool (bare_member_in pool m)
+pub field_regular : (class_flags : ℕ) (pool : Slots) (m : MemberLayout) → IsRegularField class_flags pool m → IsRegularField class_flags pool (bare_member_in pool m)
 field_regular class_flags pool m r = record {
   type = r.type;
   name = r.name;
@@ -223,7 +223,7 @@ field_regular class_flags pool m r = record {
   one_value = rw (same_values (value_name pool) (code_name pool) m.attributes) r.one_value;
 }
 
-pub method_regular : (class_flags : ℕ) (pool : Places) (m : MemberLayout) → IsRegularMethod class_flags pool m → IsRegularMethod class_flags pool (bare_member_in pool m)
+pub method_regular : (class_flags : ℕ) (pool : Slots) (m : MemberLayout) → IsRegularMethod class_flags pool m → IsRegularMethod class_flags pool (bare_member_in pool m)
 method_regular class_flags pool m r = record {
   type = r.type;
   name = r.name;
@@ -235,7 +235,7 @@ method_regular class_flags pool m r = record {
   special_name = r.special_name;
   constructor = r.constructor;
   initialiser = r.initialiser;
-  places = r.places;
+  slots = r.slots;
   attributes = method_rules pool m.attributes r.attributes;
   one_code = rw (same_codes (value_name pool) (code_name pool) m.attributes) r.one_code;
 }

@@ -1,5 +1,5 @@
 pub mod Equality
-pub mod Places
+pub mod Slots
 pub mod Numbered
 pub mod Drafts
 pub mod Appended

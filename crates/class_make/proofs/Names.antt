@@ -5,23 +5,23 @@ use Rattle.std.proofs.lemmas.Bool.{cases_Bool, false≢true}
 use Rattle.std.proofs.lemmas.Slice.Eq.{bytes_eq-Decides}
 use Rattle.class_pool.specs.declared.pool.Const.{Const}
 use Rattle.class_pool.specs.declared.pool.Const.TheVariants.{Utf8}
-use Rattle.class_pool.specs.Pool.{Places, entry_at, text_of, utf8_at}
+use Rattle.class_pool.specs.Pool.{Slots, entry_at, text_of, utf8_at}
 use Rattle.class_file.specs.Rules.{is_named}
 use Rattle.class_make.specs.Entries.{is_entry, index_from, index_of, text_index}
-use Rattle.class_make.proofs.Places.{same_again, same_says}
+use Rattle.class_make.proofs.Slots.{same_again, same_says}
 
 -- ---- an index is that of the entry
 
--- an entry stands at a place, and its index is this one
-abbrev Stands : ℕ → Places → Const → ℕ → Type 0
+-- an entry is at a place, and its index is this one
+abbrev Stands : ℕ → Slots → Const → ℕ → Type 0
 Stands first pool entry index = (k : ℕ) × (index ≡ k + first) × (k < length pool) × (slice_get pool k ≡ Some (Some entry))
 
-abbrev place_some : Option Const → Option (Option Const)
-place_some place = Some place
+abbrev slot_some : Option Const → Option (Option Const)
+slot_some slot = Some slot
 
-place_is : (entry : Const) (place : Option Const) → is_entry entry place ≡ true → place ≡ Some entry
-place_is entry None e = absurd (false≢true e)
-place_is entry (Some other) e = ap (λ (c : Const). Some c) (same_says other entry e)
+slot_is : (entry : Const) (slot : Option Const) → is_entry entry slot ≡ true → slot ≡ Some entry
+slot_is entry None e = absurd (false≢true e)
+slot_is entry (Some other) e = ap (λ (c : Const). Some c) (same_says other entry e)
 
 abbrev index_some : ℕ → Option ℕ
 index_some n = Some n
@@ -32,44 +32,44 @@ same_index m n e = cc
 no_index : (index : ℕ) → None ≡ index_some index → ⊥
 no_index index e = cc
 
-further : (first : ℕ) (place : Option Const) (pool : Places) (entry : Const) (index : ℕ) → Stands (suc first) pool entry index → Stands first (place ∷ pool) entry index
-further first place pool entry index s = (suc s.0, omega (arith, s.1), omega (arith, s.2), s.3)
+further : (first : ℕ) (slot : Option Const) (pool : Slots) (entry : Const) (index : ℕ) → Stands (suc first) pool entry index → Stands first (slot ∷ pool) entry index
+further first slot pool entry index s = (suc s.0, omega (arith, s.1), omega (arith, s.2), s.3)
 
-found_stands : (first : ℕ) (pool : Places) (entry : Const) (index : ℕ) → index_from first pool entry ≡ Some index → Stands first pool entry index
+found_holds : (first : ℕ) (pool : Slots) (entry : Const) (index : ℕ) → index_from first pool entry ≡ Some index → Stands first pool entry index
 unfolding index_from
-found_stands first [] entry index e = absurd (no_index index e)
-found_stands first (place ∷ pool) entry index e =
-    elim (cases_Bool (is_entry entry place)) [
-      | inl t ↦ (0, omega (arith, same_index first index (rw t at e)), omega arith, ap place_some (place_is entry place t))
-      | inr f ↦ further first place pool entry index (found_stands (suc first) pool entry index (rw f at e))
+found_holds first [] entry index e = absurd (no_index index e)
+found_holds first (slot ∷ pool) entry index e =
+    elim (cases_Bool (is_entry entry slot)) [
+      | inl t ↦ (0, omega (arith, same_index first index (rw t at e)), omega arith, ap slot_some (slot_is entry slot t))
+      | inr f ↦ further first slot pool entry index (found_holds (suc first) pool entry index (rw f at e))
     ]
 
 -- ---- an entry that stands somewhere is found
 
-no_place : (entry : Const) → None ≡ place_some (Some entry) → ⊥
-no_place entry e = cc
+no_slot : (entry : Const) → None ≡ slot_some (Some entry) → ⊥
+no_slot entry e = cc
 
-same_place : (place : Option Const) (entry : Const) → place_some place ≡ place_some (Some entry) → place ≡ Some entry
-same_place place entry e = cc
+same_slot : (slot : Option Const) (entry : Const) → slot_some slot ≡ slot_some (Some entry) → slot ≡ Some entry
+same_slot slot entry e = cc
 
-entry_again : (place : Option Const) (entry : Const) → place ≡ Some entry → is_entry entry place ≡ true
-entry_again place entry e = rw e (same_again entry)
+entry_again : (slot : Option Const) (entry : Const) → slot ≡ Some entry → is_entry entry slot ≡ true
+entry_again slot entry e = rw e (same_again entry)
 
-stands_found : (first : ℕ) (pool : Places) (entry : Const) (k : ℕ) → slice_get pool k ≡ Some (Some entry) → (index : ℕ) × (index_from first pool entry ≡ Some index)
+holds_found : (first : ℕ) (pool : Slots) (entry : Const) (k : ℕ) → slice_get pool k ≡ Some (Some entry) → (index : ℕ) × (index_from first pool entry ≡ Some index)
 unfolding index_from
-stands_found first [] entry k e = absurd (no_place entry e)
-stands_found first (place ∷ pool) entry zero e = (first, rw (entry_again place entry (same_place place entry e)) refl)
-stands_found first (place ∷ pool) entry (suc k) e =
-    elim (cases_Bool (is_entry entry place)) [
+holds_found first [] entry k e = absurd (no_slot entry e)
+holds_found first (slot ∷ pool) entry zero e = (first, rw (entry_again slot entry (same_slot slot entry e)) refl)
+holds_found first (slot ∷ pool) entry (suc k) e =
+    elim (cases_Bool (is_entry entry slot)) [
       | inl t ↦ (first, rw t refl)
-      | inr f ↦ let s = stands_found (suc first) pool entry k e in (s.0, rw f s.1)
+      | inr f ↦ let s = holds_found (suc first) pool entry k e in (s.0, rw f s.1)
     ]
 
 -- ---- texts
 
-some_entry : (place : Option (Option Const)) (entry : Const) → option_and_then (λ (e : Option Const). e) place ≡ Some entry → place ≡ Some (Some entry)
+some_entry : (slot : Option (Option Const)) (entry : Const) → option_and_then (λ (e : Option Const). e) slot ≡ Some entry → slot ≡ Some (Some entry)
 some_entry None entry e = cc
-some_entry (Some place) entry e = ap place_some e
+some_entry (Some slot) entry e = ap slot_some e
 
 abbrev entry_some : Const → Option Const
 entry_some entry = Some entry
@@ -77,10 +77,10 @@ entry_some entry = Some entry
 no_entry : (entry : Const) → None ≡ entry_some entry → ⊥
 no_entry entry e = cc
 
--- an entry at an index stands at a place
-entry_stands : (pool : Places) (n : ℕ) (entry : Const) → entry_at pool n ≡ Some entry → (k : ℕ) × (slice_get pool k ≡ Some (Some entry))
-entry_stands pool zero entry e = absurd (no_entry entry e)
-entry_stands pool (suc k) entry e = (k, some_entry (slice_get pool k) entry e)
+-- an entry at an index is at a place
+entry_holds : (pool : Slots) (n : ℕ) (entry : Const) → entry_at pool n ≡ Some entry → (k : ℕ) × (slice_get pool k ≡ Some (Some entry))
+entry_holds pool zero entry e = absurd (no_entry entry e)
+entry_holds pool (suc k) entry e = (k, some_entry (slice_get pool k) entry e)
 
 abbrev text_some : List ℕ → Option (List ℕ)
 text_some text = Some text
@@ -104,15 +104,15 @@ named_is text None e = absurd (false≢true e)
 named_is text (Some other) e = ap text_some ((bytes_eq-Decides other text).0 e)
 
 -- a text that some index names is named by its own index
-pub named_again : (pool : Places) (text : List ℕ) (n : ℕ) → IsTrue (is_named text (utf8_at pool n)) → IsTrue (is_named text (utf8_at pool (text_index pool text)))
+pub named_again : (pool : Slots) (text : List ℕ) (n : ℕ) → IsTrue (is_named text (utf8_at pool n)) → IsTrue (is_named text (utf8_at pool (text_index pool text)))
 named_again pool text n named =
     let entry : entry_at pool n ≡ Some (Utf8 text) = text_entry (entry_at pool n) text (named_is text (utf8_at pool n) named) in
-    let stands = entry_stands pool n (Utf8 text) entry in
-    let found = stands_found 1 pool (Utf8 text) stands.0 stands.1 in
-    let place = found_stands 1 pool (Utf8 text) found.0 found.1 in
-    let index_is : found.0 ≡ suc place.0 = omega (arith, place.1) in
-    let there : text_index pool text ≡ suc place.0 = rw found.1 index_is in
-    let texts : utf8_at pool (suc place.0) ≡ Some text = rw place.3 refl in
+    let stands = entry_holds pool n (Utf8 text) entry in
+    let found = holds_found 1 pool (Utf8 text) stands.0 stands.1 in
+    let slot = found_holds 1 pool (Utf8 text) found.0 found.1 in
+    let index_is : found.0 ≡ suc slot.0 = omega (arith, slot.1) in
+    let there : text_index pool text ≡ suc slot.0 = rw found.1 index_is in
+    let texts : utf8_at pool (suc slot.0) ≡ Some text = rw slot.3 refl in
     rw (there, texts) ((bytes_eq-Decides text text).1 refl)
 
 small_option : (size : ℕ) (found : Option ℕ) → ((index : ℕ) → found ≡ Some index → index ≤ size) → unwrap_or found 0 ≤ size
@@ -120,16 +120,16 @@ small_option size None small = omega arith
 small_option size (Some index) small = small index refl
 
 -- the index of a text is that of a place
-pub index_small : (pool : Places) (text : List ℕ) → length pool < 65535 → text_index pool text < 2 ^ 16
+pub index_small : (pool : Slots) (text : List ℕ) → length pool < 65535 → text_index pool text < 2 ^ 16
 index_small pool text count =
     let small : text_index pool text ≤ length pool =
-    small_option (length pool) (index_of pool (Utf8 text)) (λ index e. let s = found_stands 1 pool (Utf8 text) index e in omega (arith, s.1, s.2)) in
+    small_option (length pool) (index_of pool (Utf8 text)) (λ index e. let s = found_holds 1 pool (Utf8 text) index e in omega (arith, s.1, s.2)) in
     omega (arith, small, count)
 
--- what stands at the index of an entry
-pub entry_there : (pool : Places) (entry : Const) (index : ℕ) → index_of pool entry ≡ Some index → entry_at pool index ≡ Some entry
+-- what is at the index of an entry
+pub entry_there : (pool : Slots) (entry : Const) (index : ℕ) → index_of pool entry ≡ Some index → entry_at pool index ≡ Some entry
 entry_there pool entry index e =
-    let place = found_stands 1 pool entry index e in
-    let index_is : index ≡ suc place.0 = omega (arith, place.1) in
-    let there : entry_at pool (suc place.0) ≡ Some entry = rw place.3 refl in
+    let slot = found_holds 1 pool entry index e in
+    let index_is : index ≡ suc slot.0 = omega (arith, slot.1) in
+    let there : entry_at pool (suc slot.0) ≡ Some entry = rw slot.3 refl in
     rw index_is there

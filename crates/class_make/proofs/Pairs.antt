@@ -4,11 +4,11 @@ use Rattle.std.proofs.lemmas.Bool.{and_parts, and_from, eqb-true}
 use Rattle.class_pool.specs.declared.pool.Const.{Const}
 use Rattle.class_file.specs.declared.record.HandlerRow.{HandlerRow}
 use Rattle.class_make.specs.Entries.{is_same}
-use Rattle.class_make.proofs.Places.{same_again, same_says}
+use Rattle.class_make.proofs.Slots.{same_again, same_says}
 
 -- two places with entries
-pub place_same : (a b : Option Const) (x y : Const) (r : Bool) → a ≡ Some x → b ≡ Some y → r ≡ is_same x y → (r ≡ true → a ≡ b) × (a ≡ b → r ≡ true)
-place_same a b x y r a_is b_is r_is =
+pub slot_same : (a b : Option Const) (x y : Const) (r : Bool) → a ≡ Some x → b ≡ Some y → r ≡ is_same x y → (r ≡ true → a ≡ b) × (a ≡ b → r ≡ true)
+slot_same a b x y r a_is b_is r_is =
     (λ t. a_is ∙ ap (λ (c : Const). Some c) (same_says x y (sym r_is ∙ t)) ∙ sym b_is, λ e. let xy : x ≡ y = cc in r_is ∙ ap (is_same x) (sym xy) ∙ same_again x)
 
 abbrev row_at : ℕ → ℕ → ℕ → ℕ → HandlerRow

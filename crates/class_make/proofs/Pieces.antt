@@ -1,4 +1,4 @@
--- The pieces of a class file are appended one behind the other.
+-- The pieces of a class file are appended one after the other.
 use Rattle.std.proofs.Common.{◌≡◌, ℕ, ◌+◌, ◌*◌, List, [], ◌∷◌, ◌++◌, map, length, Option, Some, refl, sym, ap, ◌∙◌, append_assoc, arith, length-append}
 use Rattle.std.specs.List.{flat_map}
 use Rattle.std.proofs.lemmas.List.{append-nil, length-map}
@@ -30,7 +30,7 @@ code_appended start named sized whole name size option code some named_is size_i
     parts ∙ attribute_parts start (u2 name) (u4 (length info)) info
     ∙ ap (λ (o : Option CodeAttr). start ++ flat_map (λ (a : MemberAttribute). attribute_bytes (plain a)) (code_attribute name o)) (sym some)
 
--- members behind their count
+-- members after their count
 pub members_appended : (start counted_so whole : List ℕ) (v c : ℕ) (members : List Member) → counted_so ≡ start ++ u2 (length members)
     → whole ≡ counted_so ++ flat_map (λ (m : Member). member_bytes (member_layout v c m)) members → whole ≡ start ++ counted member_bytes (map (member_layout v c) members)
 members_appended start counted_so whole v c members count_is whole_is =

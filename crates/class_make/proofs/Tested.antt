@@ -4,7 +4,7 @@ use Rattle.std.proofs.lemmas.Bool.{false≢true}
 use Rattle.class_file.specs.declared.record.ClassFile.{ClassFile}
 use Rattle.class_file.specs.declared.refusal.ReadRefusal.{ReadRefusal}
 use Rattle.class_file.specs.declared.refusal.ReadRefusal.TheVariants.{NotClass, Version, Truncated, TrailingBytes, BadPool, BadShape as ReadBadShape, BadDescriptor, TooLarge, Memory as ReadMemory}
-use Rattle.class_file.specs.Layout.{spelling}
+use Rattle.class_file.specs.Layout.{encoding}
 use Rattle.class_file.specs.Relation.{IsClassFile}
 use Rattle.class_file.specs.Reading.{Gives}
 use Rattle.class_make.specs.declared.refusal.DraftRefusal.TheVariants.{BadShape}
@@ -36,7 +36,7 @@ no_refusal : (file : ClassFile) (why : ReadRefusal) → read_ok file ≡ read_er
 no_refusal file why e = cc
 
 -- the bytes of a valid record are a class file with it
-pub valid_bytes : (bytes : List ℕ) (file : ClassFile) → bytes ≡ spelling (layout_of file) → IsRecord file → IsClassFile bytes file
+pub valid_bytes : (bytes : List ℕ) (file : ClassFile) → bytes ≡ encoding (layout_of file) → IsRecord file → IsClassFile bytes file
 valid_bytes bytes file is valid = subst (λ (b : List ℕ). IsClassFile b file) (sym is) (written_again file valid)
 
 -- its lengths and counts fit
@@ -46,13 +46,13 @@ not_fitting file misfit = inr (refl, λ valid. false≢true (sym misfit ∙ reco
 pub read_same : (bytes : List ℕ) (file read : ClassFile) → IsClassFile bytes read → read ≡ file → IsRecord file
 read_same bytes file read class same = (bytes, subst (IsClassFile bytes) same class)
 
-pub read_other : (bytes : List ℕ) (file read : ClassFile) → bytes ≡ spelling (layout_of file) → ReadsAll bytes (Ok read) → (read ≡ file → ⊥) → IsInvalid file BadShape
+pub read_other : (bytes : List ℕ) (file read : ClassFile) → bytes ≡ encoding (layout_of file) → ReadsAll bytes (Ok read) → (read ≡ file → ⊥) → IsInvalid file BadShape
 read_other bytes file read is only differ = inr (refl, λ valid. differ (sym (same_file file read (only file (valid_bytes bytes file is valid)))))
 
-not_read : (bytes : List ℕ) (file : ClassFile) (why : ReadRefusal) → bytes ≡ spelling (layout_of file) → ((file : ClassFile) → IsClassFile bytes file → read_ok file ≡ read_err why) → IsInvalid file BadShape
+not_read : (bytes : List ℕ) (file : ClassFile) (why : ReadRefusal) → bytes ≡ encoding (layout_of file) → ((file : ClassFile) → IsClassFile bytes file → read_ok file ≡ read_err why) → IsInvalid file BadShape
 not_read bytes file why is only = inr (refl, λ valid. no_refusal file why (only file (valid_bytes bytes file is valid)))
 
-pub read_refused : (bytes : List ℕ) (file : ClassFile) (why : ReadRefusal) → bytes ≡ spelling (layout_of file) → ReadsAll bytes (Err why) → IsInvalid file (refusal_of why)
+pub read_refused : (bytes : List ℕ) (file : ClassFile) (why : ReadRefusal) → bytes ≡ encoding (layout_of file) → ReadsAll bytes (Err why) → IsInvalid file (refusal_of why)
 read_refused bytes file ReadMemory is only = inl refl
 read_refused bytes file NotClass is only = not_read bytes file NotClass is only
 read_refused bytes file (Version major) is only = not_read bytes file (Version major) is only

@@ -6,15 +6,15 @@ use Rattle.std.proofs.lemmas.Bool.{and_from, and_parts, lt-ltb}
 use Rattle.std.proofs.lemmas.List.{length-map}
 use Rattle.class_pool.specs.declared.pool.Const.{Const}
 use Rattle.class_pool.specs.declared.pool.Const.TheVariants.{Utf8}
-use Rattle.class_pool.specs.Pool.{Places, FitsEntry, EachEntry, pool_bytes}
+use Rattle.class_pool.specs.Pool.{Slots, FitsEntry, EachEntry, pool_bytes}
 use Rattle.class_file.specs.declared.record.ClassFile.{ClassFile}
 use Rattle.class_file.specs.declared.record.Member.{Member}
 use Rattle.class_file.specs.Rules.{is_same_member}
-use Rattle.class_file.specs.Layout.{MemberAttribute, Coded, Valued, Skipped, MemberLayout, Layout, u2, counted, attribute_bytes, member_bytes, magic, spelling, codes_in, first, head_of, member_of, record_of}
+use Rattle.class_file.specs.Layout.{MemberAttribute, Coded, Valued, Skipped, MemberLayout, Layout, u2, counted, attribute_bytes, member_bytes, magic, encoding, codes_in, first, head_of, member_of, record_of}
 use Rattle.class_file.specs.Relation.{FitsU2, FitsMember, FitsMemberAttribute, FitsLayout, IsFieldAttribute, IsMethodAttribute, IsRegularField, IsRegularMethod, IsRegular, largest, IsLaidOut, IsClassFile}
 use Rattle.class_make.specs.Record.{IsRecord}
 use Rattle.class_make.specs.Entries.{text_index}
-use Rattle.class_make.specs.Written.{member_layout, member_layouts, layout_of, fits_text, fits_places, fits_code, fits_codes, fits}
+use Rattle.class_make.specs.Written.{member_layout, member_layouts, layout_of, fits_text, fits_slots, fits_code, fits_codes, fits}
 use Rattle.class_make.proofs.Names.{index_small}
 use Rattle.class_make.proofs.Bare.{u2_length, bare_member, bare_member_in, field_is, method_is, same_member, member_fits, field_regular, method_regular, member_no_longer}
 
@@ -153,34 +153,34 @@ bare_layout_regular l r =
     }
 
 -- what stands before the fields
-abbrev front : Layout → List ℕ
-front l = magic ++ (u2 l.minor ++ (u2 l.major ++ (pool_bytes l.pool ++ (u2 l.flags ++ (u2 l.this_class ++ (u2 l.super_class ++ counted u2 l.interfaces))))))
+abbrev prefix : Layout → List ℕ
+prefix l = magic ++ (u2 l.minor ++ (u2 l.major ++ (pool_bytes l.pool ++ (u2 l.flags ++ (u2 l.this_class ++ (u2 l.super_class ++ counted u2 l.interfaces))))))
 
-spelling_length : (l : Layout) → length (spelling l) ≡ length (front l) + (length (counted member_bytes l.fields) + (length (counted member_bytes l.methods) + length (counted attribute_bytes l.attributes)))
-spelling_length l = simp length-append (omega arith)
+encoding_length : (l : Layout) → length (encoding l) ≡ length (prefix l) + (length (counted member_bytes l.fields) + (length (counted member_bytes l.methods) + length (counted attribute_bytes l.attributes)))
+encoding_length l = simp length-append (omega arith)
 
-spelling_no_longer : (l : Layout) → length (spelling (bare_layout l)) ≤ length (spelling l)
-spelling_no_longer l =
+encoding_no_longer : (l : Layout) → length (encoding (bare_layout l)) ≤ length (encoding l)
+encoding_no_longer l =
     let v : ℕ = text_index l.pool (codes "ConstantValue") in
     let c : ℕ = text_index l.pool (codes "Code") in
     let some : length (counted attribute_bytes l.attributes) ≡ 2 + length (flat_map attribute_bytes l.attributes) =
     omega (arith, length-append (u2 (length l.attributes)) (flat_map attribute_bytes l.attributes), u2_length (length l.attributes)) in
     let none : length (counted attribute_bytes []) ≡ 2 = refl in
-    omega (arith, spelling_length l, spelling_length (bare_layout l), counted_no_longer v c l.fields, counted_no_longer v c l.methods, some, none)
+    omega (arith, encoding_length l, encoding_length (bare_layout l), counted_no_longer v c l.fields, counted_no_longer v c l.methods, some, none)
 
-bare_laid_out : (bytes : List ℕ) (l : Layout) (file : ClassFile) → IsLaidOut bytes l file → IsClassFile (spelling (bare_layout l)) (record_of l)
+bare_laid_out : (bytes : List ℕ) (l : Layout) (file : ClassFile) → IsLaidOut bytes l file → IsClassFile (encoding (bare_layout l)) (record_of l)
 bare_laid_out bytes l file is =
-    let size : length (spelling l) ≤ largest = subst (λ (b : List ℕ). length b ≤ largest) is.spelled is.size in
-    (bare_layout l, record { spelled = refl; size = omega (arith, size, spelling_no_longer l); fits = bare_layout_fits l is.regular is.fits; regular = bare_layout_regular l is.regular; stands = record_is l })
+    let size : length (encoding l) ≤ largest = subst (λ (b : List ℕ). length b ≤ largest) is.encoded is.size in
+    (bare_layout l, record { encoded = refl; size = omega (arith, size, encoding_no_longer l); fits = bare_layout_fits l is.regular is.fits; regular = bare_layout_regular l is.regular; stands = record_is l })
 
 abbrev IsWritten : ClassFile → Type 0
-IsWritten file = IsClassFile (spelling (layout_of file)) file
+IsWritten file = IsClassFile (encoding (layout_of file)) file
 
-pub written_again : (file : ClassFile) → IsRecord file → IsClassFile (spelling (layout_of file)) file
+pub written_again : (file : ClassFile) → IsRecord file → IsClassFile (encoding (layout_of file)) file
 written_again file (bytes, class) =
     let l : Layout = class.0 in
     let bare = bare_laid_out bytes l file class.1 in
-    let whole : IsWritten (record_of l) = subst (λ (w : Layout). IsClassFile (spelling w) (record_of l)) (sym (layout_is l class.1.regular)) bare in
+    let whole : IsWritten (record_of l) = subst (λ (w : Layout). IsClassFile (encoding w) (record_of l)) (sym (layout_is l class.1.regular)) bare in
     subst IsWritten (sym class.1.stands) whole
 
 -- ---- its lengths and counts fit
@@ -189,18 +189,18 @@ text_fits : (entry : Const) → FitsEntry entry → fits_text entry ≡ true
 text_fits (Utf8 text) f = lt-ltb (length text) 65536 (omega (arith, f.0))
 text_fits _ f = refl
 
-places_fit : (places : Places) → EachEntry FitsEntry places → fits_places places ≡ true
-places_fit [] f = refl
-places_fit (None ∷ places) f = places_fit places f
-places_fit (Some entry ∷ places) f = and_from (fits_text entry) (fits_places places) (text_fits entry f.0) (places_fit places f.1)
+slots_fit : (slots : Slots) → EachEntry FitsEntry slots → fits_slots slots ≡ true
+slots_fit [] f = refl
+slots_fit (None ∷ slots) f = slots_fit slots f
+slots_fit (Some entry ∷ slots) f = and_from (fits_text entry) (fits_slots slots) (text_fits entry f.0) (slots_fit slots f.1)
 
-no_code_fits : (pool : Places) (attributes : List MemberAttribute) → AllByRecursion (IsFieldAttribute pool) attributes → fits_code (first (codes_in attributes)) ≡ true
+no_code_fits : (pool : Slots) (attributes : List MemberAttribute) → AllByRecursion (IsFieldAttribute pool) attributes → fits_code (first (codes_in attributes)) ≡ true
 no_code_fits pool [] r = refl
 no_code_fits pool (Coded name code inner ∷ others) r = absurd r.0
 no_code_fits pool (Valued name value ∷ others) r = no_code_fits pool others r.1
 no_code_fits pool (Skipped attribute ∷ others) r = no_code_fits pool others r.1
 
-code_fits : (pool : Places) (attributes : List MemberAttribute) → AllByRecursion (IsMethodAttribute pool) attributes → AllByRecursion FitsMemberAttribute attributes → fits_code (first (codes_in attributes)) ≡ true
+code_fits : (pool : Slots) (attributes : List MemberAttribute) → AllByRecursion (IsMethodAttribute pool) attributes → AllByRecursion FitsMemberAttribute attributes → fits_code (first (codes_in attributes)) ≡ true
 code_fits pool [] r f = refl
 code_fits pool (Coded name code inner ∷ others) r f =
     let handlers : length code.handlers < 2 ^ 16 = f.0.inside.handlers in
@@ -208,11 +208,11 @@ code_fits pool (Coded name code inner ∷ others) r f =
 code_fits pool (Valued name value ∷ others) r f = absurd r.0
 code_fits pool (Skipped attribute ∷ others) r f = code_fits pool others r.1 f.1
 
-fields_fit : (class_flags : ℕ) (pool : Places) (ms : List MemberLayout) → AllByRecursion (IsRegularField class_flags pool) ms → fits_codes (map member_of ms) ≡ true
+fields_fit : (class_flags : ℕ) (pool : Slots) (ms : List MemberLayout) → AllByRecursion (IsRegularField class_flags pool) ms → fits_codes (map member_of ms) ≡ true
 fields_fit class_flags pool [] r = refl
 fields_fit class_flags pool (m ∷ ms) r = and_from _ _ (no_code_fits pool m.attributes r.0.attributes) (fields_fit class_flags pool ms r.1)
 
-methods_fit : (class_flags : ℕ) (pool : Places) (ms : List MemberLayout) → AllByRecursion (IsRegularMethod class_flags pool) ms → AllByRecursion FitsMember ms → fits_codes (map member_of ms) ≡ true
+methods_fit : (class_flags : ℕ) (pool : Slots) (ms : List MemberLayout) → AllByRecursion (IsRegularMethod class_flags pool) ms → AllByRecursion FitsMember ms → fits_codes (map member_of ms) ≡ true
 methods_fit class_flags pool [] r f = refl
 methods_fit class_flags pool (m ∷ ms) r f = and_from _ _ (code_fits pool m.attributes r.0.attributes f.0.attributes) (methods_fit class_flags pool ms r.1 f.1)
 
@@ -221,7 +221,7 @@ count_fits ms f = lt-ltb (length (map member_of ms)) 65536 (omega (arith, f, len
 
 layout_record_fits : (l : Layout) → FitsLayout l → IsRegular l → fits (record_of l) ≡ true
 layout_record_fits l f r =
-    and_from _ _ (and_from _ _ (places_fit l.pool r.is_pool.fits) (lt-ltb (length l.interfaces) 65536 (omega (arith, f.interface_count))))
+    and_from _ _ (and_from _ _ (slots_fit l.pool r.is_pool.fits) (lt-ltb (length l.interfaces) 65536 (omega (arith, f.interface_count))))
     (and_from _ _ (and_from _ _ (count_fits l.fields f.field_count) (fields_fit l.flags l.pool l.fields r.fields))
     (and_from _ _ (count_fits l.methods f.method_count) (methods_fit l.flags l.pool l.methods r.methods f.methods)))
 

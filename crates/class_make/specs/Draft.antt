@@ -1,7 +1,7 @@
 -- The record that a draft stands for, and what each call makes of it.
 use Rattle.std.specs.Prelude.{◌≡◌, ℕ, ◌<◌, ◌⊎◌, List, [], ◌∷◌, ◌++◌, length, Option, Some, None, codes}
 use Rattle.class_pool.specs.declared.pool.Const.{Const}
-use Rattle.class_pool.specs.Pool.{Places}
+use Rattle.class_pool.specs.Pool.{Slots}
 use Rattle.class_file.specs.declared.record.ClassFile.{ClassFile}
 use Rattle.class_file.specs.declared.record.Member.{Member}
 use Rattle.class_file.specs.declared.record.CodeAttr.{CodeAttr}
@@ -13,7 +13,7 @@ use Rattle.class_make.specs.Record.{IsRecord}
 use Rattle.class_make.specs.Entries.{with_entry, with_text, with_class, text_index, class_index}
 
 -- a class of version 52.0 with the flags ACC_PUBLIC and ACC_SUPER (JVMS 4.1), and without members
-abbrev pub empty_class : Places → List ℕ → List ℕ → ClassFile
+abbrev pub empty_class : Slots → List ℕ → List ℕ → ClassFile
 empty_class pool name parent =
     record {
       minor = 0;
@@ -32,15 +32,15 @@ abbrev pub new_class : List ℕ → List ℕ → ClassFile
 new_class name parent = empty_class (with_class (with_class [] name) parent) name parent
 
 -- a field or a method whose name and descriptor the pool has
-abbrev pub member_in : Places → ℕ → List ℕ → List ℕ → Option CodeAttr → Member
+abbrev pub member_in : Slots → ℕ → List ℕ → List ℕ → Option CodeAttr → Member
 member_in pool flags name descriptor code =
     record { flags = flags; name = text_index pool name; descriptor = text_index pool descriptor; constant = None; code = code }
 
 -- the pool with the texts of a field, and of a method with code
-abbrev pub with_field_texts : Places → List ℕ → List ℕ → Places
+abbrev pub with_field_texts : Slots → List ℕ → List ℕ → Slots
 with_field_texts pool name descriptor = with_text (with_text pool name) descriptor
 
-abbrev pub with_method_texts : Places → List ℕ → List ℕ → Places
+abbrev pub with_method_texts : Slots → List ℕ → List ℕ → Slots
 with_method_texts pool name descriptor = with_text (with_field_texts pool name descriptor) (codes "Code")
 
 -- the class with one field more
@@ -60,15 +60,15 @@ abbrev pub with_constant : ClassFile → Const → ClassFile
 with_constant file entry = record file { pool = with_entry file.pool entry }
 
 -- how many places a pool may have: its count fits two bytes (JVMS 4.1)
-abbrev pub most_places : ℕ
-most_places = 65534
+abbrev pub most_slots : ℕ
+most_slots = 65534
 
 -- the pool has more places than that
-abbrev pub IsOver : Places → Type 0
-IsOver pool = most_places < length pool
+abbrev pub IsOver : Slots → Type 0
+IsOver pool = most_slots < length pool
 
 -- why a class with this pool is refused while it is drafted
-abbrev pub IsUnplaced : Places → DraftRefusal → Type 0
+abbrev pub IsUnplaced : Slots → DraftRefusal → Type 0
 IsUnplaced pool why = (why ≡ Memory) ⊎ ((why ≡ Full) × IsOver pool)
 
 -- why a drafted record is refused: no bytes are a class file with it

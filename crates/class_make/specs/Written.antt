@@ -4,7 +4,7 @@ use Rattle.std.specs.Prelude.{ℕ, Bool, true, ◌&&◌, nat_lt, List, [], ◌�
 use Rattle.std.specs.List.{list_all}
 use Rattle.class_pool.specs.declared.pool.Const.{Const}
 use Rattle.class_pool.specs.declared.pool.Const.TheVariants.{Utf8}
-use Rattle.class_pool.specs.Pool.{Places}
+use Rattle.class_pool.specs.Pool.{Slots}
 use Rattle.class_file.specs.declared.record.ClassFile.{ClassFile}
 use Rattle.class_file.specs.declared.record.Member.{Member}
 use Rattle.class_file.specs.declared.record.CodeAttr.{CodeAttr}
@@ -32,7 +32,7 @@ member_layout value_name code_name m =
     }
 
 -- the members of a class with this pool
-abbrev pub member_layouts : Places → List Member → List MemberLayout
+abbrev pub member_layouts : Slots → List Member → List MemberLayout
 member_layouts pool members = map (member_layout (text_index pool (codes "ConstantValue")) (text_index pool (codes "Code"))) members
 
 -- a record, laid out without what is skipped
@@ -59,12 +59,12 @@ fits_text (Utf8 text) = nat_lt (length text) 65536
 fits_text _ = true
 
 -- so does that of a place, and of each place of a pool
-abbrev pub fits_place : Option Const → Bool
-fits_place None = true
-fits_place (Some entry) = fits_text entry
+abbrev pub fits_slot : Option Const → Bool
+fits_slot None = true
+fits_slot (Some entry) = fits_text entry
 
-abbrev pub fits_places : Places → Bool
-fits_places pool = list_all fits_place pool
+abbrev pub fits_slots : Slots → Bool
+fits_slots pool = list_all fits_slot pool
 
 -- code has at most 65,535 bytes and as many handlers
 abbrev pub fits_code : Option CodeAttr → Bool
@@ -80,4 +80,4 @@ fits_members members = nat_lt (length members) 65536 && fits_codes members
 
 -- the lengths and counts of a record fit their fields
 abbrev pub fits : ClassFile → Bool
-fits file = (fits_places file.pool && nat_lt (length file.interfaces) 65536) && (fits_members file.fields && fits_members file.methods)
+fits file = (fits_slots file.pool && nat_lt (length file.interfaces) 65536) && (fits_members file.fields && fits_members file.methods)

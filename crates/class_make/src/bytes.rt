@@ -2,9 +2,9 @@
 
 ghost use Rattle.std.specs.Prelude.{◌≡◌, ◌+◌, ◌∷◌, ◌++◌, true, OnOk, IfOk};
 ghost use Rattle.std.specs.List.{flat_map};
-ghost use Rattle.class_pool.specs.Pool.{entry_bytes, place_bytes, pool_bytes};
+ghost use Rattle.class_pool.specs.Pool.{entry_bytes, slot_bytes, pool_bytes};
 ghost use Rattle.class_file.specs.Layout.{u2, u4, handler_bytes};
-ghost use Rattle.class_make.specs.Written.{fits_text, fits_place, fits_places};
+ghost use Rattle.class_make.specs.Written.{fits_text, fits_slot, fits_slots};
 
 use class_file::HandlerRow;
 use class_pool::{Const, Pool};
@@ -24,7 +24,7 @@ pub(crate) fn append_u4(out: &mut Vec<u8>, number: u32) -> Result<(), AllocError
     out.extend_from_slice(&number.to_be_bytes())
 }
 
-/// Appends a tag and the parts behind it.
+/// Appends a tag and the parts after it.
 fn append_tagged(out: &mut Vec<u8>, tag: u8, parts: &[u8]) -> Result<(), AllocError>
     ensures { OnOk result (out.new.items ≡ out.old.items ++ tag ∷ parts.now) }
 {
@@ -77,33 +77,33 @@ fn append_entry(out: &mut Vec<u8>, entry: &Const) -> Result<(), AllocError>
 }
 
 /// Appends a place of the constant pool; one without an entry has no bytes.
-fn append_place(out: &mut Vec<u8>, place: &Option<Const>) -> Result<(), AllocError>
-    requires { fits_place place.now ≡ true }
-    ensures { OnOk result (out.new.items ≡ out.old.items ++ place_bytes place.now) }
+fn append_slot(out: &mut Vec<u8>, slot: &Option<Const>) -> Result<(), AllocError>
+    requires { fits_slot slot.now ≡ true }
+    ensures { OnOk result (out.new.items ≡ out.old.items ++ slot_bytes slot.now) }
 {
-    match place {
+    match slot {
         Some(entry) => append_entry(out, entry),
         None => Ok(()),
     }
 }
 
-fn append_places(out: &mut Vec<u8>, places: &[Option<Const>]) -> Result<(), AllocError>
-    requires { fits_places places.now ≡ true }
-    ensures { OnOk result (out.new.items ≡ out.old.items ++ flat_map place_bytes places.now) }
+fn append_slots(out: &mut Vec<u8>, slots: &[Option<Const>]) -> Result<(), AllocError>
+    requires { fits_slots slots.now ≡ true }
+    ensures { OnOk result (out.new.items ≡ out.old.items ++ flat_map slot_bytes slots.now) }
 {
-    for place in places {
-        append_place(out, place)?;
+    for slot in slots {
+        append_slot(out, slot)?;
     }
     Ok(())
 }
 
 /// Appends a constant pool with its count (JVMS 4.1).
 pub(crate) fn append_pool(out: &mut Vec<u8>, pool: &Pool) -> Result<(), AllocError>
-    requires { fits_places pool.now ≡ true }
+    requires { fits_slots pool.now ≡ true }
     ensures { OnOk result (out.new.items ≡ out.old.items ++ pool_bytes pool.now) }
 {
     append_u2(out, pool.count())?;
-    append_places(out, pool.places())
+    append_slots(out, pool.slots())
 }
 
 /// Appends numbers in two bytes each.

@@ -2,8 +2,8 @@
 
 ghost use Rattle.std.specs.Prelude.{◌≡◌, ◌+◌, ◌≤◌, [], ◌++◌, None, Some, length, take, IsSome, IfOk, IfErr, OnOk, OnErr};
 ghost use Rattle.class_pool.specs.declared.pool.Const.TheVariants.{Utf8, Class};
-ghost use Rattle.class_pool.specs.Pool.{Places, width};
-ghost use Rattle.class_make.specs.Entries.{index_of, text_index, places_of, with_entry, with_text, with_class};
+ghost use Rattle.class_pool.specs.Pool.{Slots, width};
+ghost use Rattle.class_make.specs.Entries.{index_of, text_index, slots_of, with_entry, with_text, with_class};
 ghost use Rattle.class_make.specs.Numbered.{AreOf};
 ghost use Rattle.class_make.specs.Draft.{with_field_texts, IsUnplaced};
 
@@ -15,7 +15,7 @@ use std::alloc::{AllocError, Global};
 use std::marker::Model;
 
 /// How many places a pool may have: its count fits two bytes (JVMS 4.1).
-const MOST_PLACES: u16 = 65534;
+const MOST_SLOTS: u16 = 65534;
 
 /// Constants in the order in which they were first seen, each with the index of its first place (JVMS
 /// 4.4), so that one is found at the cost of a look-up. Contracts see their places.
@@ -29,11 +29,11 @@ impl Model for Constants {
     ghost use Rattle.std.specs.Prelude.{List, Option};
     ghost use Rattle.indexmap.specs.IndexMap.{keys};
     ghost use Rattle.class_pool.specs.declared.pool.Const.{Const};
-    ghost use Rattle.class_make.specs.Numbered.{places_of_all, IsNumbered};
+    ghost use Rattle.class_make.specs.Numbered.{slots_of_all, IsNumbered};
 
     ghost Value = { List (Option Const) };
 
-    ghost view = { λ constants. places_of_all (keys constants.indexes) };
+    ghost view = { λ constants. slots_of_all (keys constants.indexes) };
 
     ghost invariant = { λ constants. IsNumbered constants.indexes.entries constants.taken };
 }
@@ -55,14 +55,14 @@ fn width(constant: &Const) -> u16
     }
 }
 
-/// Adds the places of a constant behind the others.
-fn push_places(places: &mut Vec<Option<Const>>, constant: Const) -> Result<(), AllocError>
-    ensures { OnOk result (places.new.items ≡ places.old.items ++ places_of constant) }
+/// Adds the places of a constant after the others.
+fn push_slots(slots: &mut Vec<Option<Const>>, constant: Const) -> Result<(), AllocError>
+    ensures { OnOk result (slots.new.items ≡ slots.old.items ++ slots_of constant) }
 {
     let width = width(&constant);
-    places.push(Some(constant))?;
+    slots.push(Some(constant))?;
     if width > 1 {
-        places.push(None)?;
+        slots.push(None)?;
     }
     Ok(())
 }
@@ -78,17 +78,17 @@ impl Constants {
         }
     }
 
-    /// Adds a constant that is not there behind the others, and answers its index.
+    /// Adds a constant that is not there after the others, and answers its index.
     fn push(&mut self, constant: Const) -> Result<u16, DraftRefusal>
         requires { index_of self.old constant ≡ None }
-        ensures placed { OnOk result (self.new ≡ self.old ++ places_of constant) }
+        ensures placed { OnOk result (self.new ≡ self.old ++ slots_of constant) }
         ensures index { IfOk result (λ index. index ≡ length self.old + 1) }
         ensures unchanged { OnErr result (self.new ≡ self.old) }
         ensures stays_within { OnOk result (length self.new ≤ 65534) }
-        ensures refused { IfErr result (IsUnplaced (self.old ++ places_of constant)) }
+        ensures refused { IfErr result (IsUnplaced (self.old ++ slots_of constant)) }
     {
         let width = width(&constant);
-        if width > MOST_PLACES - self.taken {
+        if width > MOST_SLOTS - self.taken {
             return Err(DraftRefusal::Full);
         }
         let index = self.taken + 1;
@@ -105,8 +105,8 @@ impl Constants {
         self.indexes.get(constant).copied()
     }
 
-    /// The index of a constant, which is added behind the others where it is not there.
-    pub(crate) fn place(&mut self, constant: Const) -> Result<u16, DraftRefusal>
+    /// The index of a constant, which is added after the others where it is not there.
+    pub(crate) fn slot(&mut self, constant: Const) -> Result<u16, DraftRefusal>
         ensures placed { OnOk result (self.new ≡ with_entry self.old constant) }
         ensures index { IfOk result (λ index. index_of self.new constant ≡ Some index) }
         ensures unchanged { OnErr result (self.new ≡ self.old) }
@@ -120,7 +120,7 @@ impl Constants {
     }
 
     /// The index of a text, which is added where it is not there.
-    pub(crate) fn place_text(&mut self, alloc: Global, text: &[u8]) -> Result<u16, DraftRefusal>
+    pub(crate) fn slot_text(&mut self, alloc: Global, text: &[u8]) -> Result<u16, DraftRefusal>
         ensures placed { OnOk result (self.new ≡ with_text self.old text.now) }
         ensures index { IfOk result (λ index. index_of self.new (Utf8 text.now) ≡ Some index) }
         ensures unchanged { OnErr result (self.new ≡ self.old) }
@@ -128,23 +128,23 @@ impl Constants {
         ensures refused { IfErr result (IsUnplaced (with_text self.old text.now)) }
     {
         let constant = text_entry(alloc, text)?;
-        self.place(constant)
+        self.slot(constant)
     }
 
     /// The index of the class of a name; both are added where they are not there.
-    pub(crate) fn place_class(&mut self, alloc: Global, name: &[u8]) -> Result<u16, DraftRefusal>
+    pub(crate) fn slot_class(&mut self, alloc: Global, name: &[u8]) -> Result<u16, DraftRefusal>
         ensures placed { OnOk result (self.new ≡ with_class self.old name.now) }
         ensures named { OnOk result (IsSome (index_of self.new (Utf8 name.now))) }
         ensures index { IfOk result (λ index. index_of self.new (Class (text_index self.new name.now)) ≡ Some index) }
         ensures stays_within { OnOk result (length self.new ≤ 65534) }
         ensures refused { IfErr result (IsUnplaced (with_class self.old name.now)) }
     {
-        let name_index = self.place_text(alloc, name)?;
-        self.place(Const::Class(name_index))
+        let name_index = self.slot_text(alloc, name)?;
+        self.slot(Const::Class(name_index))
     }
 
     /// The indexes of a name and a descriptor, which are added where they are not there.
-    pub(crate) fn place_member_texts(
+    pub(crate) fn slot_member_texts(
         &mut self,
         alloc: Global,
         name: &[u8],
@@ -157,8 +157,8 @@ impl Constants {
         ensures stays_within { OnOk result (length self.new ≤ 65534) }
         ensures refused { IfErr result (IsUnplaced (with_field_texts self.old name.now descriptor.now)) }
     {
-        let name = self.place_text(alloc, name)?;
-        let descriptor = self.place_text(alloc, descriptor)?;
+        let name = self.slot_text(alloc, name)?;
+        let descriptor = self.slot_text(alloc, descriptor)?;
         Ok(MemberTexts { name, descriptor })
     }
 
@@ -169,29 +169,29 @@ impl Constants {
         self.indexes.len()
     }
 
-    /// Takes the constants behind the first of this number off.
+    /// Takes the constants after the first of this number off.
     pub(crate) fn keep(&mut self, count: usize)
         // Those that were there when there were so many are there again.
-        ensures kept { (before : Places) → AreOf count before → take (length before) self.old ≡ before → self.new ≡ before }
+        ensures kept { (before : Slots) → AreOf count before → take (length before) self.old ≡ before → self.new ≡ before }
     {
-        let behind = match self.indexes.get_index(count) {
+        let suffix = match self.indexes.get_index(count) {
             Some((_, index)) => *index,
             None => return,
         };
-        self.taken = behind - 1;
+        self.taken = suffix - 1;
         self.indexes.truncate(count);
     }
 
     /// The places of the constants.
-    pub(crate) fn into_places(self, alloc: Global) -> Result<Vec<Option<Const>>, AllocError>
-        ensures places { IfOk result (λ places. places.items ≡ self) }
-        ensures within { IfOk result (λ places. length places.items ≤ 65534) }
+    pub(crate) fn into_slots(self, alloc: Global) -> Result<Vec<Option<Const>>, AllocError>
+        ensures slots { IfOk result (λ slots. slots.items ≡ self) }
+        ensures within { IfOk result (λ slots. length slots.items ≤ 65534) }
     {
         let Constants { indexes, taken: _ } = self;
-        let mut places = Vec::new(alloc);
+        let mut slots = Vec::new(alloc);
         for constant in indexes.into_keys() {
-            push_places(&mut places, constant)?;
+            push_slots(&mut slots, constant)?;
         }
-        Ok(places)
+        Ok(slots)
     }
 }

@@ -21,7 +21,7 @@ use std::marker::Model;
 /// drafted so far. Its constants stand in the order in which they were first seen, each once.
 #[derive(Debug, Drop)]
 pub struct ClassDraft {
-    places: Constants,
+    slots: Constants,
     this_class: u16,
     super_class: u16,
     fields: Vec<Member>,
@@ -37,7 +37,7 @@ impl Model for ClassDraft {
     ghost view = { λ draft. record {
       minor = 0;
       major = 52;
-      pool = draft.places;
+      pool = draft.slots;
       flags = 33;
       this_class = draft.this_class;
       super_class = draft.super_class;
@@ -46,26 +46,26 @@ impl Model for ClassDraft {
       methods = draft.methods.items;
     } };
 
-    ghost invariant = { λ draft. length draft.places ≤ 65534 };
+    ghost invariant = { λ draft. length draft.slots ≤ 65534 };
 }
 
 /// Adds a field to the fields, and its texts to the places.
 fn push_field(
     alloc: Global,
-    places: &mut Constants,
+    slots: &mut Constants,
     fields: &mut Vec<Member>,
     flags: u16,
     name: &[u8],
     descriptor: &[u8],
 ) -> Result<(), DraftRefusal>
-    ensures placed { OnOk result (places.new ≡ with_field_texts places.old name.now descriptor.now) }
-    ensures added { OnOk result (fields.new.items ≡ fields.old.items ++ member_in places.new flags name.now descriptor.now None ∷ []) }
+    ensures placed { OnOk result (slots.new ≡ with_field_texts slots.old name.now descriptor.now) }
+    ensures added { OnOk result (fields.new.items ≡ fields.old.items ++ member_in slots.new flags name.now descriptor.now None ∷ []) }
     ensures unchanged { OnErr result (fields.new.items ≡ fields.old.items) }
-    ensures begins { take (length places.old) places.new ≡ places.old }
-    ensures stays_within { OnOk result (length places.new ≤ 65534) }
-    ensures refused { IfErr result (IsUnplaced (with_field_texts places.old name.now descriptor.now)) }
+    ensures begins { take (length slots.old) slots.new ≡ slots.old }
+    ensures stays_within { OnOk result (length slots.new ≤ 65534) }
+    ensures refused { IfErr result (IsUnplaced (with_field_texts slots.old name.now descriptor.now)) }
 {
-    let texts = places.place_member_texts(alloc, name, descriptor)?;
+    let texts = slots.slot_member_texts(alloc, name, descriptor)?;
     fields.push(Member {
         flags,
         name: texts.name,
@@ -79,22 +79,22 @@ fn push_field(
 /// Adds a method with code to the methods, and its texts to the places.
 fn push_method(
     alloc: Global,
-    places: &mut Constants,
+    slots: &mut Constants,
     methods: &mut Vec<Member>,
     flags: u16,
     name: &[u8],
     descriptor: &[u8],
     code: CodeAttr,
 ) -> Result<(), DraftRefusal>
-    ensures placed { OnOk result (places.new ≡ with_method_texts places.old name.now descriptor.now) }
-    ensures added { OnOk result (methods.new.items ≡ methods.old.items ++ member_in places.new flags name.now descriptor.now (Some code) ∷ []) }
+    ensures placed { OnOk result (slots.new ≡ with_method_texts slots.old name.now descriptor.now) }
+    ensures added { OnOk result (methods.new.items ≡ methods.old.items ++ member_in slots.new flags name.now descriptor.now (Some code) ∷ []) }
     ensures unchanged { OnErr result (methods.new.items ≡ methods.old.items) }
-    ensures begins { take (length places.old) places.new ≡ places.old }
-    ensures stays_within { OnOk result (length places.new ≤ 65534) }
-    ensures refused { IfErr result (IsUnplaced (with_method_texts places.old name.now descriptor.now)) }
+    ensures begins { take (length slots.old) slots.new ≡ slots.old }
+    ensures stays_within { OnOk result (length slots.new ≤ 65534) }
+    ensures refused { IfErr result (IsUnplaced (with_method_texts slots.old name.now descriptor.now)) }
 {
-    let texts = places.place_member_texts(alloc, name, descriptor)?;
-    places.place_text(alloc, b"Code")?;
+    let texts = slots.slot_member_texts(alloc, name, descriptor)?;
+    slots.slot_text(alloc, b"Code")?;
     methods.push(Member {
         flags,
         name: texts.name,
@@ -113,11 +113,11 @@ impl ClassDraft {
         ensures drafted { IfOk result (λ draft. draft ≡ new_class name.now parent.now) }
         ensures refused { IfErr result (λ why. why ≡ Memory) }
     {
-        let mut places = Constants::new(alloc);
-        let this_class = places.place_class(alloc, name)?;
-        let super_class = places.place_class(alloc, parent)?;
+        let mut slots = Constants::new(alloc);
+        let this_class = slots.slot_class(alloc, name)?;
+        let super_class = slots.slot_class(alloc, parent)?;
         Ok(ClassDraft {
-            places,
+            slots,
             this_class,
             super_class,
             fields: Vec::new(alloc),
@@ -141,17 +141,17 @@ impl ClassDraft {
         ensures refused { IfErr result (IsUnplaced (with_field_texts self.old.pool name.now descriptor.now)) }
         ensures full { IsOver (with_field_texts self.old.pool name.now descriptor.now) → IsErr result }
     {
-        let count = self.places.count();
+        let count = self.slots.count();
         let added = push_field(
             alloc,
-            &mut self.places,
+            &mut self.slots,
             &mut self.fields,
             flags,
             name,
             descriptor,
         );
         if added.is_err() {
-            self.places.keep(count);
+            self.slots.keep(count);
         }
         added
     }
@@ -173,10 +173,10 @@ impl ClassDraft {
         ensures refused { IfErr result (IsUnplaced (with_method_texts self.old.pool name.now descriptor.now)) }
         ensures full { IsOver (with_method_texts self.old.pool name.now descriptor.now) → IsErr result }
     {
-        let count = self.places.count();
+        let count = self.slots.count();
         let added = push_method(
             alloc,
-            &mut self.places,
+            &mut self.slots,
             &mut self.methods,
             flags,
             name,
@@ -184,7 +184,7 @@ impl ClassDraft {
             code,
         );
         if added.is_err() {
-            self.places.keep(count);
+            self.slots.keep(count);
         }
         added
     }
@@ -192,7 +192,7 @@ impl ClassDraft {
     /// The index of a constant (JVMS 4.4), which is added where it is not there. What it names is not
     /// looked at.
     pub fn constant(&mut self, _alloc: Global, c: Const) -> Result<u16, DraftRefusal>
-        // The constant stands at the index, first of its kind; or the draft is as it was.
+        // The constant is at the index, first of its kind; or the draft is as it was.
         ensures added { OnOk result (self.new ≡ with_constant self.old c) }
         ensures there { IfOk result (λ index. entry_at self.new.pool index ≡ Some c) }
         ensures index { IfOk result (λ index. index_of self.new.pool c ≡ Some index) }
@@ -202,7 +202,7 @@ impl ClassDraft {
         ensures refused { IfErr result (IsUnplaced (with_entry self.old.pool c)) }
         ensures full { IsOver (with_entry self.old.pool c) → IsErr result }
     {
-        self.places.place(c)
+        self.slots.slot(c)
     }
 
     /// The drafted record. It is refused where no bytes are a class file with this record.
@@ -224,17 +224,17 @@ impl ClassDraft {
         ensures { IfOk result (λ file. file ≡ self) }
     {
         let ClassDraft {
-            places,
+            slots,
             this_class,
             super_class,
             fields,
             methods,
         } = self;
-        let places = places.into_places(alloc)?;
+        let slots = slots.into_slots(alloc)?;
         Ok(ClassFile {
             minor: 0,
             major: 52,
-            pool: Pool::from_places(places),
+            pool: Pool::from_slots(slots),
             flags: 0x0021,
             this_class,
             super_class,

@@ -9,23 +9,23 @@ use item_list::Items;
 use std::alloc::{AllocError, Global};
 
 /// The place has this entry.
-fn is_entry(entry: &Const, place: &Option<Const>) -> bool
-    ensures { result ≡ is_entry entry.now place.now }
+fn is_entry(entry: &Const, slot: &Option<Const>) -> bool
+    ensures { result ≡ is_entry entry.now slot.now }
 {
-    match place {
+    match slot {
         Some(other) => other == entry,
         None => false,
     }
 }
 
 /// The index of the first place that has this entry.
-pub(crate) fn index_of(places: &[Option<Const>], entry: &Const) -> Option<u16>
-    requires { length places.now ≤ 65534 }
-    ensures { result ≡ index_of places.now entry.now }
+pub(crate) fn index_of(slots: &[Option<Const>], entry: &Const) -> Option<u16>
+    requires { length slots.now ≤ 65534 }
+    ensures { result ≡ index_of slots.now entry.now }
 {
     let mut index = 1;
-    for place in places {
-        if is_entry(entry, place) {
+    for slot in slots {
+        if is_entry(entry, slot) {
             return Some(index);
         }
         index += 1;

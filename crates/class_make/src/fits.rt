@@ -2,7 +2,7 @@
 
 ghost use Rattle.std.specs.Prelude.{◌≡◌};
 ghost use Rattle.std.specs.List.{list_all};
-ghost use Rattle.class_make.specs.Written.{fits_place, fits_places, fits_code, fits_codes, fits_members, fits};
+ghost use Rattle.class_make.specs.Written.{fits_slot, fits_slots, fits_code, fits_codes, fits_members, fits};
 
 use class_file::{ClassFile, CodeAttr, Member};
 use class_pool::Const;
@@ -11,10 +11,10 @@ use class_pool::Const;
 const TOO_MANY: usize = 65536;
 
 /// A text fits its length.
-fn fits_place(place: &Option<Const>) -> bool
-    ensures { result ≡ fits_place place.now }
+fn fits_slot(slot: &Option<Const>) -> bool
+    ensures { result ≡ fits_slot slot.now }
 {
-    match place {
+    match slot {
         Some(entry) => match entry {
             Const::Utf8(text) => text.len() < TOO_MANY,
             _ => true,
@@ -23,10 +23,10 @@ fn fits_place(place: &Option<Const>) -> bool
     }
 }
 
-fn fits_places(places: &[Option<Const>]) -> bool
-    ensures { result ≡ fits_places places.now }
+fn fits_slots(slots: &[Option<Const>]) -> bool
+    ensures { result ≡ fits_slots slots.now }
 {
-    places.iter().all(|place| fits_place(place))
+    slots.iter().all(|slot| fits_slot(slot))
 }
 
 /// The bytes of the code fit their length, and the handlers their count.
@@ -55,6 +55,6 @@ fn fits_members(members: &[Member]) -> bool
 pub(crate) fn fits(file: &ClassFile) -> bool
     ensures { result ≡ fits file.now }
 {
-    (fits_places(file.pool.places()) && file.interfaces.len() < TOO_MANY)
+    (fits_slots(file.pool.slots()) && file.interfaces.len() < TOO_MANY)
         && (fits_members(file.fields.as_slice()) && fits_members(file.methods.as_slice()))
 }

@@ -5,7 +5,7 @@ ghost use Rattle.std.specs.Prelude.{◌≡◌, ◌↔◌, IsTrue};
 use class_file::{ClassFile, CodeAttr, HandlerRow, Member};
 use class_pool::Const;
 
-fn is_same_place(a: &Option<Const>, b: &Option<Const>) -> bool
+fn is_same_slot(a: &Option<Const>, b: &Option<Const>) -> bool
     ensures { IsTrue result ↔ (a.now ≡ b.now) }
 {
     match a {
@@ -17,14 +17,14 @@ fn is_same_place(a: &Option<Const>, b: &Option<Const>) -> bool
     }
 }
 
-fn are_same_places(a: &[Option<Const>], b: &[Option<Const>]) -> bool
+fn are_same_slots(a: &[Option<Const>], b: &[Option<Const>]) -> bool
     ensures { IsTrue result ↔ (a.now ≡ b.now) }
 {
     if a.len() != b.len() {
         return false;
     }
     for i in 0..a.len() {
-        if !is_same_place(&a[i], &b[i]) {
+        if !is_same_slot(&a[i], &b[i]) {
             return false;
         }
     }
@@ -83,11 +83,11 @@ fn are_same_members(a: &[Member], b: &[Member]) -> bool
 }
 
 /// The numbers and the pools of the records are the same.
-fn is_same_front(a: &ClassFile, b: &ClassFile) -> bool
+fn is_same_prefix(a: &ClassFile, b: &ClassFile) -> bool
     ensures { IsTrue result
         ↔ ((a.now.minor ≡ b.now.minor) × (a.now.major ≡ b.now.major) × (a.now.pool ≡ b.now.pool)) }
 {
-    a.minor == b.minor && a.major == b.major && are_same_places(a.pool.places(), b.pool.places())
+    a.minor == b.minor && a.major == b.major && are_same_slots(a.pool.slots(), b.pool.slots())
 }
 
 /// What stands between the pools and the fields is the same.
@@ -105,7 +105,7 @@ fn is_same_head(a: &ClassFile, b: &ClassFile) -> bool
 pub(crate) fn is_same_class(a: &ClassFile, b: &ClassFile) -> bool
     ensures { IsTrue result ↔ (a.now ≡ b.now) }
 {
-    is_same_front(a, b)
+    is_same_prefix(a, b)
         && is_same_head(a, b)
         && are_same_members(a.fields.as_slice(), b.fields.as_slice())
         && are_same_members(a.methods.as_slice(), b.methods.as_slice())

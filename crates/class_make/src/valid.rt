@@ -1,7 +1,7 @@
 //! Whether some bytes are a class file with a record: what is written is read again.
 
 ghost use Rattle.std.specs.Prelude.{◌≡◌, ◌⊎◌, true, IfErr, OnOk};
-ghost use Rattle.class_file.specs.Layout.{spelling};
+ghost use Rattle.class_file.specs.Layout.{encoding};
 ghost use Rattle.class_make.specs.declared.refusal.DraftRefusal.TheVariants.{BadShape, Memory};
 ghost use Rattle.class_make.specs.Record.{IsRecord};
 ghost use Rattle.class_make.specs.Written.{layout_of};
@@ -26,7 +26,7 @@ fn refusal_of(why: ReadRefusal) -> DraftRefusal
 
 /// Tests that the bytes of a record are read as this record.
 fn test_bytes(alloc: Global, file: &ClassFile, bytes: &[u8]) -> Result<(), DraftRefusal>
-    requires { bytes.now ≡ spelling (layout_of file.now) }
+    requires { bytes.now ≡ encoding (layout_of file.now) }
     ensures valid { OnOk result (IsRecord file.now) }
     ensures refused { IfErr result (IsInvalid file.now) }
 {

@@ -3,7 +3,7 @@
 ghost use Rattle.std.specs.Prelude.{◌≡◌, ◌++◌, [], ◌∷◌, true, Some, length, map, codes, IfOk, OnOk};
 ghost use Rattle.std.specs.List.{flat_map};
 ghost use Rattle.class_pool.specs.Pool.{pool_bytes};
-ghost use Rattle.class_file.specs.Layout.{Coded, u2, counted, plain, code_info, attribute_bytes, member_bytes, magic, spelling};
+ghost use Rattle.class_file.specs.Layout.{Coded, u2, counted, plain, code_info, attribute_bytes, member_bytes, magic, encoding};
 ghost use Rattle.class_file.specs.Relation.{IsClassFile};
 ghost use Rattle.class_make.specs.Record.{IsRecord};
 ghost use Rattle.class_make.specs.Entries.{text_index};
@@ -30,7 +30,7 @@ fn text_index(alloc: Global, pool: &Pool, text: &[u8]) -> Result<u16, Memory>
     ensures { IfOk result (λ index. index ≡ text_index pool.now text.now) }
 {
     let entry = text_entry(alloc, text)?;
-    Ok(index_of(pool.places(), &entry).unwrap_or(0))
+    Ok(index_of(pool.slots(), &entry).unwrap_or(0))
 }
 
 fn names_of(alloc: Global, pool: &Pool) -> Result<Names, Memory>
@@ -130,7 +130,7 @@ fn append_members(out: &mut Vec<u8>, names: Names, members: &[Member]) -> Result
 }
 
 /// Appends what stands before the flags of the class (JVMS 4.1).
-fn append_front(out: &mut Vec<u8>, file: &ClassFile) -> Result<(), Memory>
+fn append_prefix(out: &mut Vec<u8>, file: &ClassFile) -> Result<(), Memory>
     requires { fits file.now ≡ true }
     ensures { OnOk result (out.new.items ≡ out.old.items ++ (magic ++ (u2 file.now.minor ++ (u2 file.now.major ++ pool_bytes file.now.pool)))) }
 {
@@ -155,11 +155,11 @@ fn append_head(out: &mut Vec<u8>, file: &ClassFile) -> Result<(), Memory>
 /// The bytes of a record whose lengths and counts fit.
 pub(crate) fn write_fitting(alloc: Global, file: &ClassFile) -> Result<Vec<u8>, Memory>
     requires { fits file.now ≡ true }
-    ensures { IfOk result (λ bytes. bytes.items ≡ spelling (layout_of file.now)) }
+    ensures { IfOk result (λ bytes. bytes.items ≡ encoding (layout_of file.now)) }
 {
     let names = names_of(alloc, &file.pool)?;
     let mut out = Vec::new(alloc);
-    append_front(&mut out, file)?;
+    append_prefix(&mut out, file)?;
     append_head(&mut out, file)?;
     append_members(&mut out, names, file.fields.as_slice())?;
     append_members(&mut out, names, file.methods.as_slice())?;
@@ -176,7 +176,7 @@ pub fn write_class(alloc: Global, file: &ClassFile) -> Result<Vec<u8>, Memory>
     ensures found { IfOk result (λ bytes. IsClassFile bytes.items file.now) }
 
     // Which bytes they are.
-    ensures exact { IfOk result (λ bytes. bytes.items ≡ spelling (layout_of file.now)) }
+    ensures exact { IfOk result (λ bytes. bytes.items ≡ encoding (layout_of file.now)) }
 {
     write_fitting(alloc, file)
 }

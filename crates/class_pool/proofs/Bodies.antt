@@ -1,4 +1,4 @@
--- What stands behind a tag is read where it is spelled so, and is refused where it is cut or no text.
+-- What follows a tag is read where it is encoded so, and is refused where it is cut or no text.
 use Rattle.std.proofs.Common.{◌≡◌, ◌≢◌, ◌⊎◌, ℕ, ◌+◌, ◌-◌, ◌^◌, ◌<◌, ◌≤◌, false, List, [], ◌∷◌, ◌++◌, length, get_or, take, drop, replicate, Result, Ok, Err, refl, sym, ap, subst, ◌∙◌, append_assoc, arith, inl, inr, length-append, length-drop}
 use Rattle.std.proofs.lemmas.Bool.{cases_Bool, cases_lt, le-ltb, false_from_ne_true}
 use Rattle.std.proofs.lemmas.List.{length-replicate, get_or_append_left, get_or-append_right, get_or-replicate, get_or_past, take_all, take-append-le}
@@ -17,11 +17,11 @@ use Rattle.class_pool.proofs.Texts.{text_takes, text_again}
 use Rattle.class_pool.proofs.Steps.{u2, IsBytes, back_2, bind_then, bind_fails, ok_is, same_why, true_false, pair, no_failure, then_ok, then_err, Takes, joined, u2_takes, u2_fails, u2_short, u2_again, slice_takes, slice_fails, slice_short, slice_again}
 use Rattle.class_pool.proofs.Parts.{tag_of, size_bytes, parts_of, IsFixed, entry_again, parts_made}
 
--- the bytes behind the tag of an entry
+-- the bytes after the tag of an entry
 abbrev pub body : Const → List ℕ
 body entry = size_bytes entry ++ parts_of entry
 
--- the entry was taken from the front
+-- the entry was taken from the prefix
 pub record TakesBody (tag : Tag) (bytes : List ℕ) (x : Const × List ℕ) : Type 0 where
   pub tag_is : tag_of x.0 ≡ tag
   pub takes : Takes bytes (body x.0) x.1
@@ -30,13 +30,13 @@ pub record TakesBody (tag : Tag) (bytes : List ℕ) (x : Const × List ℕ) : Ty
 -- the bytes end within the parts of an entry
 pub record CutBody (tag : Tag) (bytes : List ℕ) : Type 0 where
   pub entry : Const
-  pub behind : List ℕ
+  pub suffix : List ℕ
   pub tag_is : tag_of entry ≡ tag
   pub fits : FitsFields entry
-  pub spelled : bytes ++ behind ≡ body entry
-  pub proper : behind ≢ []
+  pub encoded : bytes ++ suffix ≡ body entry
+  pub proper : suffix ≢ []
 
--- a text that is not modified UTF-8 stands at the front
+-- a text that is not modified UTF-8 is at the prefix
 pub record BadBody (bytes : List ℕ) : Type 0 where
   pub text : List ℕ
   pub more : List ℕ
@@ -107,7 +107,7 @@ fixed_parts (MethodHandle kind index) fixed = (refl, refl)
 fixed_parts (MethodType descriptor) fixed = (refl, refl)
 fixed_parts (InvokeDynamic bootstrap name_and_type) fixed = (refl, refl)
 
--- ---- what is spelled is read
+-- ---- what is encoded is read
 
 entry_size : (entry : Const) (rest : List ℕ) → FitsFields entry → size_at (tag_of entry) (size_bytes entry ++ rest) ≡ Ok (length (parts_of entry), rest)
 unfolding size_at
@@ -140,49 +140,49 @@ some_left : (xs : List ℕ) → xs ≢ [] → 0 < length xs
 some_left [] some = absurd (some refl)
 some_left (x ∷ xs) some = omega arith
 
-cut_fixed : (index : ℕ) (entry : Const) (bytes behind : List ℕ) → IsFixed (tag_of entry) → bytes ++ behind ≡ body entry → behind ≢ [] → body_at index (tag_of entry) bytes ≡ Err Truncated
+cut_fixed : (index : ℕ) (entry : Const) (bytes suffix : List ℕ) → IsFixed (tag_of entry) → bytes ++ suffix ≡ body entry → suffix ≢ [] → body_at index (tag_of entry) bytes ≡ Err Truncated
 unfolding body_at
-cut_fixed index entry bytes behind fixed e some =
+cut_fixed index entry bytes suffix fixed e some =
     let p = fixed_parts entry fixed in
-    let whole : bytes ++ behind ≡ parts_of entry = e ∙ ap (λ (front : List ℕ). front ++ parts_of entry) p.0 in
-    let short : length bytes < parts_size (tag_of entry) = omega (arith, length-append bytes behind, ap length whole, p.1, some_left behind some) in
+    let whole : bytes ++ suffix ≡ parts_of entry = e ∙ ap (λ (prefix : List ℕ). prefix ++ parts_of entry) p.0 in
+    let short : length bytes < parts_size (tag_of entry) = omega (arith, length-append bytes suffix, ap length whole, p.1, some_left suffix some) in
     then_ok _ _ (fixed_size (tag_of entry) bytes fixed) (then_err _ (slice_short (parts_size (tag_of entry)) bytes short))
 
--- the number at the front does not change with what is cut off behind it
-same_front : (n : ℕ) (bytes behind text : List ℕ) → n < 2 ^ 16 → 2 ≤ length bytes → bytes ++ behind ≡ u2 n ++ text → u2_at bytes ≡ Ok (n, drop 2 bytes)
+-- the number at the prefix does not change with what is cut off after it
+same_prefix : (n : ℕ) (bytes suffix text : List ℕ) → n < 2 ^ 16 → 2 ≤ length bytes → bytes ++ suffix ≡ u2 n ++ text → u2_at bytes ≡ Ok (n, drop 2 bytes)
 unfolding u2_at
-same_front n bytes behind text lt long e =
-    let front : take 2 bytes ≡ u2 n = sym (take-append-le 2 bytes behind long) ∙ ap (take 2) e in
-    let number : big_number 2 bytes ≡ n = sym (big_from-take 0 2 2 bytes (omega arith)) ∙ ap (big_number 2) front ∙ big_number-reads_back 2 n [] lt in
+same_prefix n bytes suffix text lt long e =
+    let prefix : take 2 bytes ≡ u2 n = sym (take-append-le 2 bytes suffix long) ∙ ap (take 2) e in
+    let number : big_number 2 bytes ≡ n = sym (big_from-take 0 2 2 bytes (omega arith)) ∙ ap (big_number 2) prefix ∙ big_number-reads_back 2 n [] lt in
     rw (le-ltb _ _ long, number) refl
 
-cut_text : (index : ℕ) (text bytes behind : List ℕ) → length text < 2 ^ 16 → bytes ++ behind ≡ u2 (length text) ++ text → behind ≢ [] → body_at index TagUtf8 bytes ≡ Err Truncated
+cut_text : (index : ℕ) (text bytes suffix : List ℕ) → length text < 2 ^ 16 → bytes ++ suffix ≡ u2 (length text) ++ text → suffix ≢ [] → body_at index TagUtf8 bytes ≡ Err Truncated
 unfolding body_at size_at
-cut_text index text bytes behind lt e some =
+cut_text index text bytes suffix lt e some =
     elim (cases_lt (length bytes) 2) [
       | inl short ↦ then_err _ (u2_short bytes short)
       | inr long ↦
-          let left = some_left behind some in
-          let len : length bytes + length behind ≡ 2 + length text = sym (length-append bytes behind) ∙ ap length e ∙ length-append (u2 (length text)) text in
+          let left = some_left suffix some in
+          let len : length bytes + length suffix ≡ 2 + length text = sym (length-append bytes suffix) ∙ ap length e ∙ length-append (u2 (length text)) text in
           let short : length (drop 2 bytes) < length text = omega (arith, length-drop 2 bytes, len, left) in
-          then_ok _ _ (same_front (length text) bytes behind text lt long e) (then_err _ (slice_short (length text) (drop 2 bytes) short))
+          then_ok _ _ (same_prefix (length text) bytes suffix text lt long e) (then_err _ (slice_short (length text) (drop 2 bytes) short))
     ]
 
-pub body_cut : (index : ℕ) (entry : Const) (bytes behind : List ℕ) → FitsFields entry → bytes ++ behind ≡ body entry → behind ≢ [] → body_at index (tag_of entry) bytes ≡ Err Truncated
-body_cut index (Utf8 text) bytes behind fits e some = cut_text index text bytes behind fits e some
-body_cut index (Integer value) bytes behind fits e some = cut_fixed index (Integer value) bytes behind tt e some
-body_cut index (Float bits) bytes behind fits e some = cut_fixed index (Float bits) bytes behind tt e some
-body_cut index (Long bits) bytes behind fits e some = cut_fixed index (Long bits) bytes behind tt e some
-body_cut index (Double bits) bytes behind fits e some = cut_fixed index (Double bits) bytes behind tt e some
-body_cut index (Class name) bytes behind fits e some = cut_fixed index (Class name) bytes behind tt e some
-body_cut index (String text) bytes behind fits e some = cut_fixed index (String text) bytes behind tt e some
-body_cut index (Field class name_and_type) bytes behind fits e some = cut_fixed index (Field class name_and_type) bytes behind tt e some
-body_cut index (Method class name_and_type) bytes behind fits e some = cut_fixed index (Method class name_and_type) bytes behind tt e some
-body_cut index (InterfaceMethod class name_and_type) bytes behind fits e some = cut_fixed index (InterfaceMethod class name_and_type) bytes behind tt e some
-body_cut index (NameAndType name descriptor) bytes behind fits e some = cut_fixed index (NameAndType name descriptor) bytes behind tt e some
-body_cut index (MethodHandle kind handle) bytes behind fits e some = cut_fixed index (MethodHandle kind handle) bytes behind tt e some
-body_cut index (MethodType descriptor) bytes behind fits e some = cut_fixed index (MethodType descriptor) bytes behind tt e some
-body_cut index (InvokeDynamic bootstrap name_and_type) bytes behind fits e some = cut_fixed index (InvokeDynamic bootstrap name_and_type) bytes behind tt e some
+pub body_cut : (index : ℕ) (entry : Const) (bytes suffix : List ℕ) → FitsFields entry → bytes ++ suffix ≡ body entry → suffix ≢ [] → body_at index (tag_of entry) bytes ≡ Err Truncated
+body_cut index (Utf8 text) bytes suffix fits e some = cut_text index text bytes suffix fits e some
+body_cut index (Integer value) bytes suffix fits e some = cut_fixed index (Integer value) bytes suffix tt e some
+body_cut index (Float bits) bytes suffix fits e some = cut_fixed index (Float bits) bytes suffix tt e some
+body_cut index (Long bits) bytes suffix fits e some = cut_fixed index (Long bits) bytes suffix tt e some
+body_cut index (Double bits) bytes suffix fits e some = cut_fixed index (Double bits) bytes suffix tt e some
+body_cut index (Class name) bytes suffix fits e some = cut_fixed index (Class name) bytes suffix tt e some
+body_cut index (String text) bytes suffix fits e some = cut_fixed index (String text) bytes suffix tt e some
+body_cut index (Field class name_and_type) bytes suffix fits e some = cut_fixed index (Field class name_and_type) bytes suffix tt e some
+body_cut index (Method class name_and_type) bytes suffix fits e some = cut_fixed index (Method class name_and_type) bytes suffix tt e some
+body_cut index (InterfaceMethod class name_and_type) bytes suffix fits e some = cut_fixed index (InterfaceMethod class name_and_type) bytes suffix tt e some
+body_cut index (NameAndType name descriptor) bytes suffix fits e some = cut_fixed index (NameAndType name descriptor) bytes suffix tt e some
+body_cut index (MethodHandle kind handle) bytes suffix fits e some = cut_fixed index (MethodHandle kind handle) bytes suffix tt e some
+body_cut index (MethodType descriptor) bytes suffix fits e some = cut_fixed index (MethodType descriptor) bytes suffix tt e some
+body_cut index (InvokeDynamic bootstrap name_and_type) bytes suffix fits e some = cut_fixed index (InvokeDynamic bootstrap name_and_type) bytes suffix tt e some
 
 -- ---- a text that is none is refused
 
@@ -196,7 +196,7 @@ body_bad index text rest lt other =
     ∙ then_ok _ _ (u2_again (length text) (text ++ rest) lt)
     (then_ok _ _ (slice_again text rest (length text) refl) (rw (not_found text other) refl))
 
--- ---- what was read is spelled so
+-- ---- what was read is encoded so
 
 abbrev text_entry : ℕ → List ℕ → Result Const PoolRefusal
 text_entry index parts = text_of index parts >>= λ text. Ok (Utf8 text)
@@ -232,8 +232,8 @@ fixed_taken index tag bytes x fixed fits e =
     let p = slice_takes (parts_size tag) bytes parts fits (subst (λ (y : ℕ × List ℕ). slice_at y.0 y.1 ≡ Ok parts) (sym s) at_parts) in
     let m = parts_made index tag parts.0 fixed p.2 p.1 in
     let same : m.entry ≡ entry = ok_is m.entry entry (sym m.reads ∙ at_entry) in
-    let spelled : parts.0 ≡ body m.entry = sym m.parts_are ∙ ap (λ (front : List ℕ). front ++ parts_of m.entry) (sym m.no_size) in
-    let made : TakesBody tag bytes (m.entry, parts.1) = record { tag_is = m.tag_is; takes = subst (λ (text : List ℕ). Takes bytes text parts.1) spelled p.0; fits = m.fits } in
+    let encoded : parts.0 ≡ body m.entry = sym m.parts_are ∙ ap (λ (prefix : List ℕ). prefix ++ parts_of m.entry) (sym m.no_size) in
+    let made : TakesBody tag bytes (m.entry, parts.1) = record { tag_is = m.tag_is; takes = subst (λ (text : List ℕ). Takes bytes text parts.1) encoded p.0; fits = m.fits } in
     subst (TakesBody tag bytes) (ap (λ (c : Const). pair c parts.1) same ∙ ok_is (entry, parts.1) x e_x) made)))
 
 taken_by : (index : ℕ) (tag : Tag) (bytes : List ℕ) (x : Const × List ℕ) → IsBytes bytes → (tag ≡ TagUtf8) ⊎ IsFixed tag → body_at index tag bytes ≡ Ok x → TakesBody tag bytes x
@@ -278,10 +278,10 @@ padded_length bytes n lt = omega (arith, length-append bytes (zeros (n - length 
 
 fixed_cut : (tag : Tag) (bytes : List ℕ) → IsFixed tag → IsBytes bytes → length bytes < parts_size tag → CutBody tag bytes
 fixed_cut tag bytes fixed fits short =
-    let behind : List ℕ = zeros (parts_size tag - length bytes) in
-    let m = parts_made 0 tag (bytes ++ behind) fixed (padded_bytes bytes (parts_size tag - length bytes) fits) (padded_length bytes (parts_size tag) short) in
-    let spelled : bytes ++ behind ≡ body m.entry = sym m.parts_are ∙ ap (λ (front : List ℕ). front ++ parts_of m.entry) (sym m.no_size) in
-    record { entry = m.entry; behind = behind; tag_is = m.tag_is; fits = m.fits.0; spelled = spelled; proper = zeros_some (parts_size tag - length bytes) (omega (arith, short)) }
+    let suffix : List ℕ = zeros (parts_size tag - length bytes) in
+    let m = parts_made 0 tag (bytes ++ suffix) fixed (padded_bytes bytes (parts_size tag - length bytes) fits) (padded_length bytes (parts_size tag) short) in
+    let encoded : bytes ++ suffix ≡ body m.entry = sym m.parts_are ∙ ap (λ (prefix : List ℕ). prefix ++ parts_of m.entry) (sym m.no_size) in
+    record { entry = m.entry; suffix = suffix; tag_is = m.tag_is; fits = m.fits.0; encoded = encoded; proper = zeros_some (parts_size tag - length bytes) (omega (arith, short)) }
 
 -- the length of a text is cut off
 size_cut : (bytes : List ℕ) → IsBytes bytes → length bytes < 2 → CutBody TagUtf8 bytes
@@ -292,18 +292,18 @@ size_cut bytes fits short =
     let len : length (bytes ++ pad) ≡ 2 = padded_length bytes 2 short in
     let back : u2 n ≡ bytes ++ pad = back_2 (bytes ++ pad) (omega (arith, len)) all ∙ take_all 2 (bytes ++ pad) (omega (arith, len)) in
     let text : List ℕ = zeros n in
-    let whole : u2 (length text) ++ text ≡ bytes ++ (pad ++ text) = ap (λ (k : ℕ). u2 k ++ text) (zeros_length n) ∙ ap (λ (front : List ℕ). front ++ text) back ∙ append_assoc bytes pad text in
+    let whole : u2 (length text) ++ text ≡ bytes ++ (pad ++ text) = ap (λ (k : ℕ). u2 k ++ text) (zeros_length n) ∙ ap (λ (prefix : List ℕ). prefix ++ text) back ∙ append_assoc bytes pad text in
     let fit : length text < 2 ^ 16 = omega (arith, zeros_length n, big_from-lt 0 2 (bytes ++ pad) all) in
-    record { entry = Utf8 text; behind = pad ++ text; tag_is = refl; fits = fit; spelled = sym whole; proper = λ e. absurd (omega (arith, ap length e, length-append pad text, zeros_length (2 - length bytes))) }
+    record { entry = Utf8 text; suffix = pad ++ text; tag_is = refl; fits = fit; encoded = sym whole; proper = λ e. absurd (omega (arith, ap length e, length-append pad text, zeros_length (2 - length bytes))) }
 
 -- the text is cut off
 text_cut : (bytes : List ℕ) (size : ℕ × List ℕ) → Takes bytes (u2 size.0) size.1 → size.0 < 2 ^ 16 → length size.1 < size.0 → CutBody TagUtf8 bytes
-text_cut bytes size front lt short =
+text_cut bytes size prefix lt short =
     let pad : List ℕ = zeros (size.0 - length size.1) in
     let text : List ℕ = size.1 ++ pad in
     let len : length text ≡ size.0 = padded_length size.1 size.0 short in
-    let whole : bytes ++ pad ≡ u2 (length text) ++ text = ap (λ (t : List ℕ). t ++ pad) front.parts ∙ append_assoc (u2 size.0) size.1 pad ∙ ap (λ (k : ℕ). u2 k ++ text) (sym len) in
-    record { entry = Utf8 text; behind = pad; tag_is = refl; fits = omega (arith, len, lt); spelled = whole; proper = zeros_some (size.0 - length size.1) (omega (arith, short)) }
+    let whole : bytes ++ pad ≡ u2 (length text) ++ text = ap (λ (t : List ℕ). t ++ pad) prefix.parts ∙ append_assoc (u2 size.0) size.1 pad ∙ ap (λ (k : ℕ). u2 k ++ text) (sym len) in
+    record { entry = Utf8 text; suffix = pad; tag_is = refl; fits = omega (arith, len, lt); encoded = whole; proper = zeros_some (size.0 - length size.1) (omega (arith, short)) }
 
 text_stops : (index : ℕ) (parts : List ℕ) (why : PoolRefusal) → text_entry index parts ≡ Err why → (why ≡ BadUtf8 index) × (IsModifiedUtf8 parts → ⊥)
 text_stops index parts why e =
@@ -318,12 +318,12 @@ with_rest rest read = read >>= λ entry. Ok (entry, rest)
 -- a whole text that was refused is none
 text_bad : (index : ℕ) (bytes : List ℕ) (size : ℕ × List ℕ) (parts : List ℕ × List ℕ) (why : PoolRefusal) → Takes bytes (u2 size.0) size.1 → size.0 < 2 ^ 16 → Takes size.1 parts.0 parts.1 → length parts.0 ≡ size.0
     → with_rest parts.1 (text_entry index parts.0) ≡ Err why → (why ≡ BadUtf8 index) × (TagUtf8 ≡ TagUtf8) × BadBody bytes
-text_bad index bytes size parts why front lt text len e =
+text_bad index bytes size parts why prefix lt text len e =
     elim (bind_fails (text_entry index parts.0) _ why e) [
       | inr made ↦ absurd (no_failure (made.0, parts.1) why made.2)
       | inl bad ↦
           let t = text_stops index parts.0 why bad in
-          let sized : Takes bytes (u2 (length parts.0)) size.1 = subst (λ (n : ℕ). Takes bytes (u2 n) size.1) (sym len) front in
+          let sized : Takes bytes (u2 (length parts.0)) size.1 = subst (λ (n : ℕ). Takes bytes (u2 n) size.1) (sym len) prefix in
           (t.0, refl, record { text = parts.0; more = parts.1; begins = (joined sized text).parts; fits = omega (arith, len, lt); not_text = t.1 })
     ]
 

@@ -21,7 +21,7 @@ no_some x e = cc
 
 -- ---- bytes of a name
 
--- what may follow, behind a byte of a name
+-- what may follow, after a byte of a name
 part_goes : (begins : Bool) (byte : ℕ) → is_part_byte byte ≡ true → after_byte begins byte ≡ Some false
 part_goes begins byte e =
     let p = and_parts (not (eqb byte 46)) _ e in
@@ -35,7 +35,7 @@ after_end begins = refl
 not_end : (begins next : Bool) (byte : ℕ) → after_byte begins byte ≡ Some next → byte ≢ 59
 not_end begins next byte e is = absurd (no_some next (sym (after_end begins) ∙ ap (after_byte begins) (sym is) ∙ e))
 
--- a byte of a name is a `/` behind a part, or a byte of a part
+-- a byte of a name is a `/` after a part, or a byte of a part
 slash_cases : (begins next : Bool) → cond begins None (some true) ≡ Some next → (begins ≡ false) × (next ≡ true)
 slash_cases true next e = absurd (no_some next e)
 slash_cases false next e = (refl, sym (some_is true next e))
@@ -117,25 +117,25 @@ record Split (begins : Bool) (name : List ℕ) : Type 0 where
   tail_is : ArePartBytes tail
   begun : begins ≡ true → tail ≢ []
   others_are : AllByRecursion IsPart others
-  spelled : name ≡ tail ++ other_parts others
+  encoded : name ≡ tail ++ other_parts others
 
 whole_part : (byte : ℕ) (tail : List ℕ) → byte ∷ tail ≢ []
 whole_part byte tail e = cc
 
-slash_front : (byte : ℕ) (name : List ℕ) → byte ≡ 47 → Split true name → Split false (byte ∷ name)
-slash_front byte name is s =
-    let whole : byte ∷ name ≡ other_parts (s.tail ∷ s.others) = ap (λ (b : ℕ). b ∷ name) is ∙ ap (λ (t : List ℕ). 47 ∷ t) s.spelled ∙ sym (flat_map-cons (λ (part : List ℕ). 47 ∷ part) s.tail s.others) in
-    record { tail = []; others = s.tail ∷ s.others; tail_is = tt; begun = λ e. absurd cc; others_are = ((s.begun refl, s.tail_is), s.others_are); spelled = whole }
+slash_prefix : (byte : ℕ) (name : List ℕ) → byte ≡ 47 → Split true name → Split false (byte ∷ name)
+slash_prefix byte name is s =
+    let whole : byte ∷ name ≡ other_parts (s.tail ∷ s.others) = ap (λ (b : ℕ). b ∷ name) is ∙ ap (λ (t : List ℕ). 47 ∷ t) s.encoded ∙ sym (flat_map-cons (λ (part : List ℕ). 47 ∷ part) s.tail s.others) in
+    record { tail = []; others = s.tail ∷ s.others; tail_is = tt; begun = λ e. absurd cc; others_are = ((s.begun refl, s.tail_is), s.others_are); encoded = whole }
 
-part_front : (begins : Bool) (byte : ℕ) (name : List ℕ) → is_part_byte byte ≡ true → Split false name → Split begins (byte ∷ name)
-part_front begins byte name is s = record { tail = byte ∷ s.tail; others = s.others; tail_is = (is, s.tail_is); begun = λ e. whole_part byte s.tail; others_are = s.others_are; spelled = ap (λ (t : List ℕ). byte ∷ t) s.spelled }
+part_prefix : (begins : Bool) (byte : ℕ) (name : List ℕ) → is_part_byte byte ≡ true → Split false name → Split begins (byte ∷ name)
+part_prefix begins byte name is s = record { tail = byte ∷ s.tail; others = s.others; tail_is = (is, s.tail_is); begun = λ e. whole_part byte s.tail; others_are = s.others_are; encoded = ap (λ (t : List ℕ). byte ∷ t) s.encoded }
 
 split : (begins : Bool) (name : List ℕ) → NameRest begins name → Split begins name
-split begins [] e = record { tail = []; others = []; tail_is = tt; begun = λ is. absurd (true_false (sym is ∙ e)); others_are = tt; spelled = refl }
+split begins [] e = record { tail = []; others = []; tail_is = tt; begun = λ is. absurd (true_false (sym is ∙ e)); others_are = tt; encoded = refl }
 split begins (byte ∷ name) go =
     elim (byte_cases begins go.0 byte go.1) [
-      | inl slash ↦ subst (λ (b : Bool). Split b (byte ∷ name)) (sym slash.1) (slash_front byte name slash.0 (subst (λ (b : Bool). Split b name) slash.2 (split go.0 name go.2)))
-      | inr part ↦ part_front begins byte name part.0 (subst (λ (b : Bool). Split b name) part.1 (split go.0 name go.2))
+      | inl slash ↦ subst (λ (b : Bool). Split b (byte ∷ name)) (sym slash.1) (slash_prefix byte name slash.0 (subst (λ (b : Bool). Split b name) slash.2 (split go.0 name go.2)))
+      | inr part ↦ part_prefix begins byte name part.0 (subst (λ (b : Bool). Split b name) part.1 (split go.0 name go.2))
     ]
 
 unsplit : (begins : Bool) (tail : List ℕ) (others : List (List ℕ)) → ArePartBytes tail → (begins ≡ true → tail ≢ []) → AllByRecursion IsPart others → NameRest begins (tail ++ other_parts others)
@@ -151,18 +151,18 @@ unsplit begins (byte ∷ tail) others tail_is begun others_are =
 to_name : (name : List ℕ) → NameRest true name → IsClassName name
 to_name name go =
     let s = split true name go in
-    record { first = s.tail; others = s.others; first_is = (s.begun refl, s.tail_is); others_are = s.others_are; spelled = s.spelled }
+    record { first = s.tail; others = s.others; first_is = (s.begun refl, s.tail_is); others_are = s.others_are; encoded = s.encoded }
 
 from_name : (name : List ℕ) → IsClassName name → NameRest true name
-from_name name is = subst (NameRest true) (sym is.spelled) (unsplit true is.first is.others is.first_is.1 (λ e. is.first_is.0) is.others_are)
+from_name name is = subst (NameRest true) (sym is.encoded) (unsplit true is.first is.others is.first_is.1 (λ e. is.first_is.0) is.others_are)
 
 pub class_read : (name rest : List ℕ) → IsClassName name → class_at (name ++ 59 ∷ rest) ≡ Some (name, rest)
 unfolding class_at
 class_read name rest is =
     let text : List ℕ = name ++ 59 ∷ rest in
     let size = size_read true name rest (from_name name is) in
-    let behind : drop (length name + 1) text ≡ rest = ap (drop (length name + 1)) (sym (append_assoc name (59 ∷ []) rest)) ∙ drop_at (name ++ 59 ∷ []) rest (length name + 1) (omega (arith, length-append name (59 ∷ []))) in
-    ap (option_map (split_name text)) size ∙ ap some (both (take_at name (59 ∷ rest) (length name) refl) behind)
+    let suffix : drop (length name + 1) text ≡ rest = ap (drop (length name + 1)) (sym (append_assoc name (59 ∷ []) rest)) ∙ drop_at (name ++ 59 ∷ []) rest (length name + 1) (omega (arith, length-append name (59 ∷ []))) in
+    ap (option_map (split_name text)) size ∙ ap some (both (take_at name (59 ∷ rest) (length name) refl) suffix)
 
 pub record TakesName (text : List ℕ) (x : List ℕ × List ℕ) : Type 0 where
   pub parts : text ≡ x.0 ++ 59 ∷ x.1
@@ -177,7 +177,7 @@ unfolding class_at
 class_taken text x e =
     let m = map_is (split_name text) (name_size true text) x e in
     let s = size_taken true text m.0 m.1 in
-    let behind : drop (m.0 + 1) text ≡ s.rest = ap (drop (m.0 + 1)) (s.parts ∙ sym (append_assoc s.name (59 ∷ []) s.rest)) ∙ drop_at (s.name ++ 59 ∷ []) s.rest (m.0 + 1) (omega (arith, length-append s.name (59 ∷ []), s.size_is)) in
-    let front : take m.0 text ≡ s.name = ap (take m.0) s.parts ∙ take_at s.name (59 ∷ s.rest) m.0 s.size_is in
-    let same : pair s.name s.rest ≡ x = sym (both front behind) ∙ m.2 in
+    let suffix : drop (m.0 + 1) text ≡ s.rest = ap (drop (m.0 + 1)) (s.parts ∙ sym (append_assoc s.name (59 ∷ []) s.rest)) ∙ drop_at (s.name ++ 59 ∷ []) s.rest (m.0 + 1) (omega (arith, length-append s.name (59 ∷ []), s.size_is)) in
+    let prefix : take m.0 text ≡ s.name = ap (take m.0) s.parts ∙ take_at s.name (59 ∷ s.rest) m.0 s.size_is in
+    let same : pair s.name s.rest ≡ x = sym (both prefix suffix) ∙ m.2 in
     subst (TakesName text) same (record { parts = s.parts; is_name = to_name s.name s.goes })

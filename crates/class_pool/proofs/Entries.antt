@@ -1,4 +1,4 @@
--- An entry is read where it is spelled, and refused where it is refused.
+-- An entry is read where it is encoded, and refused where it is refused.
 use Rattle.std.proofs.Common.{◌≡◌, ℕ, ◌<◌, ◌≤◌, ltb, List, [], ◌∷◌, ◌++◌, Option, Some, None, Result, Ok, Err, refl, sym, ap, subst, ◌∙◌, arith, inl, inr}
 use Rattle.std.proofs.lemmas.Bool.{cases_Bool, ltb-true, ltb-false, lt-ltb, le-ltb}
 use Rattle.class_pool.specs.declared.pool.Const.{Const}
@@ -35,17 +35,17 @@ has_room index room tag bytes le = rw (le-ltb room (tag_width tag) le) refl
 no_room : (index room : ℕ) (tag : Tag) (bytes : List ℕ) → room < tag_width tag → tested index room tag bytes ≡ Err (BadTag index)
 no_room index room tag bytes lt = rw (lt-ltb room (tag_width tag) lt) refl
 
--- behind a tag with room stands its body
-pub behind_tag : (index room : ℕ) (entry : Const) (bytes : List ℕ) → width entry ≤ room → entry_at index room (tag_byte (tag_of entry) ∷ bytes) ≡ body_at index (tag_of entry) bytes
+-- after a tag with room stands its body
+pub after_tag : (index room : ℕ) (entry : Const) (bytes : List ℕ) → width entry ≤ room → entry_at index room (tag_byte (tag_of entry) ∷ bytes) ≡ body_at index (tag_of entry) bytes
 unfolding entry_at
-behind_tag index room entry bytes le =
+after_tag index room entry bytes le =
     ap (λ (tag : Option Tag). tagged_at index room tag bytes) (tag_back (tag_of entry)) ∙ has_room index room (tag_of entry) bytes (subst (λ (n : ℕ). n ≤ room) (width_is entry) le)
 
--- ---- what is spelled is read
+-- ---- what is encoded is read
 
 pub entry_read : (index room : ℕ) (entry : Const) (rest : List ℕ) → FitsEntry entry → width entry ≤ room → entry_at index room (entry_bytes entry ++ rest) ≡ Ok (entry, rest)
 entry_read index room entry rest fits le =
-    ap (λ (bytes : List ℕ). entry_at index room (bytes ++ rest)) (bytes_are entry) ∙ behind_tag index room entry (body entry ++ rest) le ∙ body_again index entry rest fits
+    ap (λ (bytes : List ℕ). entry_at index room (bytes ++ rest)) (bytes_are entry) ∙ after_tag index room entry (body entry ++ rest) le ∙ body_again index entry rest fits
 
 -- ---- what is refused is refused
 
@@ -53,10 +53,10 @@ cut_again : (index room : ℕ) (bytes : List ℕ) → IsCut room bytes → entry
 unfolding entry_at
 cut_again index room [] c = refl
 cut_again index room (byte ∷ bytes) c =
-    let whole : byte ∷ (bytes ++ c.behind) ≡ tag_byte (tag_of c.entry) ∷ body c.entry = c.spelled ∙ bytes_are c.entry in
-    let first : byte ≡ tag_byte (tag_of c.entry) = heads byte (tag_byte (tag_of c.entry)) (bytes ++ c.behind) (body c.entry) whole in
-    let others : bytes ++ c.behind ≡ body c.entry = tails byte (tag_byte (tag_of c.entry)) (bytes ++ c.behind) (body c.entry) whole in
-    ap (λ (b : ℕ). entry_at index room (b ∷ bytes)) first ∙ behind_tag index room c.entry bytes c.has_room ∙ body_cut index c.entry bytes c.behind c.fits others c.proper
+    let whole : byte ∷ (bytes ++ c.suffix) ≡ tag_byte (tag_of c.entry) ∷ body c.entry = c.encoded ∙ bytes_are c.entry in
+    let first : byte ≡ tag_byte (tag_of c.entry) = heads byte (tag_byte (tag_of c.entry)) (bytes ++ c.suffix) (body c.entry) whole in
+    let others : bytes ++ c.suffix ≡ body c.entry = tails byte (tag_byte (tag_of c.entry)) (bytes ++ c.suffix) (body c.entry) whole in
+    ap (λ (b : ℕ). entry_at index room (b ∷ bytes)) first ∙ after_tag index room c.entry bytes c.has_room ∙ body_cut index c.entry bytes c.suffix c.fits others c.proper
 
 abbrev NoEntry : ℕ → ℕ → Type 0
 NoEntry room byte = (entry : Const) (parts : List ℕ) → entry_bytes entry ≡ byte ∷ parts → room < width entry
@@ -65,9 +65,9 @@ bad_by : (index room byte : ℕ) (bytes : List ℕ) (tag : Option Tag) → tag_o
 bad_by index room byte bytes None e none = refl
 bad_by index room byte bytes (Some tag) e none =
     let entry = sample tag in
-    let spelled : entry_bytes entry.0 ≡ byte ∷ body entry.0 = bytes_are entry.0 ∙ ap (λ (b : ℕ). b ∷ body entry.0) (ap tag_byte entry.1 ∙ sym (tag_says byte tag e)) in
+    let encoded : entry_bytes entry.0 ≡ byte ∷ body entry.0 = bytes_are entry.0 ∙ ap (λ (b : ℕ). b ∷ body entry.0) (ap tag_byte entry.1 ∙ sym (tag_says byte tag e)) in
     let wide : tag_width tag ≡ width entry.0 = ap tag_width (sym entry.1) ∙ sym (width_is entry.0) in
-    no_room index room tag bytes (subst (λ (n : ℕ). room < n) (sym wide) (none entry.0 (body entry.0) spelled))
+    no_room index room tag bytes (subst (λ (n : ℕ). room < n) (sym wide) (none entry.0 (body entry.0) encoded))
 
 bad_tag_again : (index room : ℕ) (bytes : List ℕ) → IsBadTag room bytes → entry_at index room bytes ≡ Err (BadTag index)
 unfolding entry_at
@@ -75,7 +75,7 @@ bad_tag_again index room bytes b = ap (entry_at index room) b.begins ∙ bad_by 
 
 bad_text_again : (index room : ℕ) (bytes : List ℕ) → 1 ≤ room → IsBadText bytes → entry_at index room bytes ≡ Err (BadUtf8 index)
 bad_text_again index room bytes some b =
-    ap (entry_at index room) b.begins ∙ behind_tag index room (Utf8 b.text) (body (Utf8 b.text) ++ b.more) some ∙ body_bad index b.text b.more b.fits b.not_text
+    ap (entry_at index room) b.begins ∙ after_tag index room (Utf8 b.text) (body (Utf8 b.text) ++ b.more) some ∙ body_bad index b.text b.more b.fits b.not_text
 
 abbrev failed : PoolRefusal → Result (Const × List ℕ) PoolRefusal
 failed why = Err why
@@ -87,7 +87,7 @@ entry_refused index room bytes (BadUtf8 bad) some r = bad_text_again index room 
 entry_refused index room bytes (BadIndex bad) some r = absurd r
 entry_refused index room bytes Memory some r = absurd r
 
--- ---- what was read is spelled so
+-- ---- what was read is encoded so
 
 pub record TakesEntry (room : ℕ) (bytes : List ℕ) (x : Const × List ℕ) : Type 0 where
   pub takes : Takes bytes (entry_bytes x.0) x.1
@@ -117,7 +117,7 @@ entry_taken index room (byte ∷ bytes) x fits e = taken_by index room byte byte
 -- ---- what was refused is refused so
 
 nothing_there : (room : ℕ) → 1 ≤ room → IsCut room []
-nothing_there room some = record { entry = Class 0; behind = entry_bytes (Class 0); fits = omega arith; has_room = some; spelled = refl; proper = λ e. cc }
+nothing_there room some = record { entry = Class 0; suffix = entry_bytes (Class 0); fits = omega arith; has_room = some; encoded = refl; proper = λ e. cc }
 
 -- a tag that was refused is that of no entry with room
 unknown : (room byte : ℕ) → tag_of_byte byte ≡ None → NoEntry room byte
@@ -139,9 +139,9 @@ body_failed : (index room byte : ℕ) (bytes : List ℕ) (why : PoolRefusal) (ta
 body_failed index room byte bytes why tag is le (inl cut) =
     let c = cut.1 in
     let first : byte ≡ tag_byte (tag_of c.entry) = tag_says byte tag is ∙ ap tag_byte (sym c.tag_is) in
-    let spelled : byte ∷ (bytes ++ c.behind) ≡ entry_bytes c.entry = ap (λ (b : ℕ). b ∷ (bytes ++ c.behind)) first ∙ ap (λ (rest : List ℕ). tag_byte (tag_of c.entry) ∷ rest) c.spelled ∙ sym (bytes_are c.entry) in
+    let encoded : byte ∷ (bytes ++ c.suffix) ≡ entry_bytes c.entry = ap (λ (b : ℕ). b ∷ (bytes ++ c.suffix)) first ∙ ap (λ (rest : List ℕ). tag_byte (tag_of c.entry) ∷ rest) c.encoded ∙ sym (bytes_are c.entry) in
     let wide : tag_width tag ≡ width c.entry = ap tag_width (sym c.tag_is) ∙ sym (width_is c.entry) in
-    let is_cut : IsCut room (byte ∷ bytes) = record { entry = c.entry; behind = c.behind; fits = c.fits; has_room = subst (λ (n : ℕ). n ≤ room) wide le; spelled = spelled; proper = c.proper } in
+    let is_cut : IsCut room (byte ∷ bytes) = record { entry = c.entry; suffix = c.suffix; fits = c.fits; has_room = subst (λ (n : ℕ). n ≤ room) wide le; encoded = encoded; proper = c.proper } in
     subst (IsEntryRefused index room (byte ∷ bytes)) (sym cut.0) is_cut
 body_failed index room byte bytes why tag is le (inr bad) =
     let b = bad.2 in

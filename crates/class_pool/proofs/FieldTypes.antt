@@ -1,4 +1,4 @@
--- A type is read where it is spelled, and what is read is one.
+-- A type is read where it is encoded, and what is read is one.
 use Rattle.std.proofs.Common.{◌≡◌, ◌⊎◌, ℕ, zero, suc, ◌≤◌, Bool, true, false, cond, ltb, eqb, List, [], ◌∷◌, ◌++◌, length, drop, replicate, get_or, Option, Some, None, refl, sym, ap, subst, ◌∙◌, append_assoc, arith, inl, inr}
 use Rattle.std.specs.List.{AllByRecursion}
 use Rattle.std.proofs.lemmas.Bool.{cases_Bool, eqb-true, eqb-false, ne_eqb, ltb-false, le-ltb}
@@ -71,7 +71,7 @@ letter_base : (letter : ℕ) (text : List ℕ) (x : Base × List ℕ) → (plain
 letter_base letter text x e =
     bind_some (plain_base letter) _ x e (λ base at_base e_x.
     let t = among_taken plain_bases letter base all_plain at_base in
-    subst (TakesBase (letter ∷ text)) (some_is (base, text) x e_x) (record { parts = ap (λ (front : List ℕ). front ++ text) (sym t.text_is); is_base = t.is_base }))
+    subst (TakesBase (letter ∷ text)) (some_is (base, text) x e_x) (record { parts = ap (λ (prefix : List ℕ). prefix ++ text) (sym t.text_is); is_base = t.is_base }))
 
 pub base_taken : (text : List ℕ) (x : Base × List ℕ) → base_at text ≡ Some x → TakesBase text x
 unfolding base_at
@@ -96,12 +96,12 @@ base_read (BaseClass name) rest is = then_some _ _ (ap class_at (append_assoc na
 
 -- ---- brackets
 
-pub brackets_front : (text : List ℕ) → text ≡ replicate (brackets text) 91 ++ drop (brackets text) text
+pub brackets_prefix : (text : List ℕ) → text ≡ replicate (brackets text) 91 ++ drop (brackets text) text
 unfolding brackets
-brackets_front [] = refl
-brackets_front (letter ∷ text) =
+brackets_prefix [] = refl
+brackets_prefix (letter ∷ text) =
     elim (cases_Bool (eqb letter 91)) [
-      | inl is ↦ rw is (ap (λ (l : ℕ). l ∷ text) (eqb-true _ _ is) ∙ ap (λ (t : List ℕ). 91 ∷ t) (brackets_front text))
+      | inl is ↦ rw is (ap (λ (l : ℕ). l ∷ text) (eqb-true _ _ is) ∙ ap (λ (t : List ℕ). 91 ∷ t) (brackets_prefix text))
       | inr not ↦ rw not refl
     ]
 
@@ -188,8 +188,8 @@ kind_made : (text : List ℕ) (base : Base × List ℕ) → brackets text ≤ 25
 kind_made text base le t =
     let dims = brackets text in
     let w = is_with dims base.0 le in
-    let spelled : kind_text (kind_with dims base.0) ≡ replicate dims 91 ++ base_text base.0 = ap (λ (n : ℕ). replicate n 91 ++ base_text (base_of (kind_with dims base.0))) w.dims_are ∙ ap (λ (b : Base). replicate dims 91 ++ base_text b) w.base_is in
-    let whole : text ≡ kind_text (kind_with dims base.0) ++ base.1 = brackets_front text ∙ ap (λ (rest : List ℕ). replicate dims 91 ++ rest) t.parts ∙ sym (append_assoc (replicate dims 91) (base_text base.0) base.1) ∙ ap (λ (front : List ℕ). front ++ base.1) (sym spelled) in
+    let encoded : kind_text (kind_with dims base.0) ≡ replicate dims 91 ++ base_text base.0 = ap (λ (n : ℕ). replicate n 91 ++ base_text (base_of (kind_with dims base.0))) w.dims_are ∙ ap (λ (b : Base). replicate dims 91 ++ base_text b) w.base_is in
+    let whole : text ≡ kind_text (kind_with dims base.0) ++ base.1 = brackets_prefix text ∙ ap (λ (rest : List ℕ). replicate dims 91 ++ rest) t.parts ∙ sym (append_assoc (replicate dims 91) (base_text base.0) base.1) ∙ ap (λ (prefix : List ℕ). prefix ++ base.1) (sym encoded) in
     record { parts = whole; is_kind = (w.has_dims, subst IsBase (sym w.base_is) t.is_base) }
 
 abbrev with_base : ℕ → List ℕ → Option (Kind × List ℕ)
@@ -217,10 +217,10 @@ kind_read kind rest is =
     let tail : List ℕ = base_text base ++ rest in
     let text : List ℕ = replicate dims 91 ++ tail in
     let count : brackets text ≡ dims = brackets_read dims tail (no_brackets base rest) in
-    let behind : drop dims text ≡ tail = drop_at (replicate dims 91) tail dims (length-replicate {A = ℕ} dims 91) in
+    let suffix : drop dims text ≡ tail = drop_at (replicate dims 91) tail dims (length-replicate {A = ℕ} dims 91) in
     let few : ltb 255 dims ≡ false = le-ltb 255 dims (few_dims kind is.0) in
     let by_count : kind_at text ≡ cond (ltb 255 dims) no_kind (with_base dims (drop dims text)) = ap (λ (n : ℕ). cond (ltb 255 n) no_kind (with_base n (drop n text))) count in
-    let by_test : cond (ltb 255 dims) no_kind (with_base dims (drop dims text)) ≡ with_base dims tail = ap (λ (b : Bool). cond b no_kind (with_base dims (drop dims text))) few ∙ ap (with_base dims) behind in
+    let by_test : cond (ltb 255 dims) no_kind (with_base dims (drop dims text)) ≡ with_base dims tail = ap (λ (b : Bool). cond b no_kind (with_base dims (drop dims text))) few ∙ ap (with_base dims) suffix in
     ap kind_at (append_assoc (replicate dims 91) (base_text base) rest) ∙ by_count ∙ by_test
     ∙ then_some _ _ (base_read base rest is.1) (ap (λ (k : Kind). some (k, rest)) (with_again kind is.0))
 

@@ -6,7 +6,7 @@ pub mod Linked
 pub mod Parts
 pub mod Bodies
 pub mod Entries
-pub mod PlaceLists
+pub mod SlotLists
 pub mod Pools
 pub mod Scans
 pub mod ClassNames

@@ -1,4 +1,4 @@
--- Parameters and the descriptor of a method are read where they are spelled, and what is read is one.
+-- Parameters and the descriptor of a method are read where they are encoded, and what is read is one.
 use Rattle.std.proofs.Common.{◌≡◌, ◌⊎◌, ℕ, zero, suc, ◌+◌, ◌-◌, ◌<◌, ◌≤◌, Bool, true, false, cond, eqb, List, [], ◌∷◌, ◌++◌, length, Option, Some, None, Err, refl, sym, ap, subst, ◌∙◌, append_assoc, arith, inl, inr, length-append}
 use Rattle.std.specs.List.{flat_map, AllByRecursion}
 use Rattle.std.proofs.lemmas.Bool.{eqb-true}
@@ -22,7 +22,7 @@ Params = List Kind × List ℕ
 abbrev pub goes_on : ℕ → List ℕ → Option Params
 goes_on most text = kind_at text >>= λ kind. params_at most kind.1 >>= λ others. Some (kind.0 ∷ others.0, others.1)
 
--- ---- what is spelled is read
+-- ---- what is encoded is read
 
 -- no type begins with a `)`
 no_close : (kind : Kind) (rest : List ℕ) → HasDims kind → after_close (kind_text kind ++ rest) ≡ None
@@ -63,13 +63,13 @@ params_read (suc most) (kind ∷ params) rest lt are =
     let on : params_at (suc most) (kind_text kind ++ others) ≡ goes_on most (kind_text kind ++ others) = ap (λ (close : Option (List ℕ)). closed close (goes_on most (kind_text kind ++ others))) (no_close kind others are.0.0) in
     ap (params_at (suc most)) whole ∙ on ∙ then_some _ _ (kind_read kind others are.0) (then_some _ _ (params_read most params rest few are.1) refl)
 
--- ---- what was read is spelled so
+-- ---- what was read is encoded so
 
 pub record TakesParams (text : List ℕ) (x : Params) : Type 0 where
   pub parts : text ≡ flat_map kind_text x.0 ++ 41 ∷ x.1
   pub are_kinds : AllByRecursion IsKind x.0
 
--- where the text stands at a `)`
+-- where the text is at a `)`
 close_cases : (text : List ℕ) (close : Option (List ℕ)) (others : Option Params) (x : Params) → after_close text ≡ close → closed close others ≡ Some x → ((rest : List ℕ) × (text ≡ 41 ∷ rest) × (pair [] rest ≡ x)) ⊎ (others ≡ Some x)
 close_cases text None others x e h = inr h
 close_cases [] (Some rest) others x e h = absurd (no_some rest e)
@@ -81,7 +81,7 @@ close_cases (letter ∷ text) (Some rest) others x e h =
 
 params_made : (text : List ℕ) (kind : Kind × List ℕ) (others : Params) → text ≡ kind_text kind.0 ++ kind.1 → IsKind kind.0 → TakesParams kind.1 others → TakesParams text (kind.0 ∷ others.0, others.1)
 params_made text kind others parts is t =
-    let whole : text ≡ flat_map kind_text (kind.0 ∷ others.0) ++ 41 ∷ others.1 = parts ∙ ap (λ (rest : List ℕ). kind_text kind.0 ++ rest) t.parts ∙ sym (append_assoc (kind_text kind.0) (flat_map kind_text others.0) (41 ∷ others.1)) ∙ ap (λ (front : List ℕ). front ++ 41 ∷ others.1) (sym (flat_map-cons kind_text kind.0 others.0)) in
+    let whole : text ≡ flat_map kind_text (kind.0 ∷ others.0) ++ 41 ∷ others.1 = parts ∙ ap (λ (rest : List ℕ). kind_text kind.0 ++ rest) t.parts ∙ sym (append_assoc (kind_text kind.0) (flat_map kind_text others.0) (41 ∷ others.1)) ∙ ap (λ (prefix : List ℕ). prefix ++ 41 ∷ others.1) (sym (flat_map-cons kind_text kind.0 others.0)) in
     record { parts = whole; are_kinds = (is, t.are_kinds) }
 
 pub params_taken : (most : ℕ) (text : List ℕ) (x : Params) → params_at most text ≡ Some x → TakesParams text x
@@ -165,8 +165,8 @@ result_read (Some kind) is = to_field (kind_text kind) (no_void kind is.0) ∙ t
 abbrev no_method : Option Descriptor
 no_method = None
 
-abbrev behind_open : List ℕ → Option Descriptor
-behind_open text = params_at (length text) text >>= λ params. result_of params.1 >>= λ result. Some (record { params = params.0; result = result })
+abbrev after_open : List ℕ → Option Descriptor
+after_open text = params_at (length text) text >>= λ params. result_of params.1 >>= λ result. Some (record { params = params.0; result = result })
 
 method_made : (letter : ℕ) (text : List ℕ) (params : Params) (result : Option Kind) → letter ≡ 40 → TakesParams text params → TakesResult params.1 result → IsMethodText (letter ∷ text) (record { params = params.0; result = result })
 method_made letter text params result is p r =
@@ -177,7 +177,7 @@ pub method_taken : (text : List ℕ) (d : Descriptor) → method_of text ≡ Som
 unfolding method_of
 method_taken [] d e = absurd (no_some d e)
 method_taken (letter ∷ text) d e =
-    elim (chosen (eqb letter 40) (behind_open text) no_method (some d) e) [
+    elim (chosen (eqb letter 40) (after_open text) no_method (some d) e) [
       | inl begun ↦
           bind_some (params_at (length text) text) _ d begun.1 (λ params at_params e_result.
           bind_some (result_of params.1) _ d e_result (λ result at_result e_d.
@@ -197,12 +197,12 @@ method_read text d is =
 -- ---- one parameter after the other, as a loop does
 
 -- what was read before, and what is still read
-abbrev pub with_front : List Kind → Option Params → Option Params
-with_front front read = read >>= λ x. Some (front ++ x.0, x.1)
+abbrev pub with_prefix : List Kind → Option Params → Option Params
+with_prefix prefix read = read >>= λ x. Some (prefix ++ x.0, x.1)
 
-regroup : (front : List Kind) (kind : Kind) (read : Option Params) → with_front front (read >>= λ x. Some (kind ∷ x.0, x.1)) ≡ with_front (front ++ kind ∷ []) read
-regroup front kind (Some x) = ap (λ (kinds : List Kind). some (kinds, x.1)) (simp append_assoc)
-regroup front kind None = refl
+regroup : (prefix : List Kind) (kind : Kind) (read : Option Params) → with_prefix prefix (read >>= λ x. Some (kind ∷ x.0, x.1)) ≡ with_prefix (prefix ++ kind ∷ []) read
+regroup prefix kind (Some x) = ap (λ (kinds : List Kind). some (kinds, x.1)) (simp append_assoc)
+regroup prefix kind None = refl
 
 room_left : (most i : ℕ) → i < most → most - i ≡ suc (most - (i + 1))
 room_left most i lt = omega arith
@@ -215,29 +215,29 @@ one_closed : (most : ℕ) (text rest : List ℕ) → after_close text ≡ Some r
 unfolding params_at
 one_closed most text rest e = ap (λ (close : Option (List ℕ)). closed close (goes_on most text)) e
 
-pub loop_goes_on : (front : List Kind) (most i : ℕ) (text : List ℕ) (kind : Kind) (after : List ℕ) (total : Option Params) → i < most → after_close text ≡ None → kind_at text ≡ Some (kind, after)
-    → with_front front (params_at (most - i) text) ≡ total → with_front (front ++ kind ∷ []) (params_at (most - (i + 1)) after) ≡ total
-loop_goes_on front most i text kind after total lt goes read so_far =
+pub loop_goes_on : (prefix : List Kind) (most i : ℕ) (text : List ℕ) (kind : Kind) (after : List ℕ) (total : Option Params) → i < most → after_close text ≡ None → kind_at text ≡ Some (kind, after)
+    → with_prefix prefix (params_at (most - i) text) ≡ total → with_prefix (prefix ++ kind ∷ []) (params_at (most - (i + 1)) after) ≡ total
+loop_goes_on prefix most i text kind after total lt goes read so_far =
     let k = room_left most i lt in
     let next = most - (i + 1) in
     let one : params_at (suc next) text ≡ (params_at next after >>= λ others. Some (kind ∷ others.0, others.1)) = one_on next text goes ∙ then_some _ _ read refl in
-    sym (regroup front kind (params_at next after)) ∙ ap (with_front front) (sym one) ∙ ap (λ (n : ℕ). with_front front (params_at n text)) (sym k) ∙ so_far
+    sym (regroup prefix kind (params_at next after)) ∙ ap (with_prefix prefix) (sym one) ∙ ap (λ (n : ℕ). with_prefix prefix (params_at n text)) (sym k) ∙ so_far
 
-pub loop_closes : (front : List Kind) (most i : ℕ) (text rest : List ℕ) (total : Option Params) → i < most → after_close text ≡ Some rest → with_front front (params_at (most - i) text) ≡ total → total ≡ Some (front, rest)
-loop_closes front most i text rest total lt close so_far =
+pub loop_closes : (prefix : List Kind) (most i : ℕ) (text rest : List ℕ) (total : Option Params) → i < most → after_close text ≡ Some rest → with_prefix prefix (params_at (most - i) text) ≡ total → total ≡ Some (prefix, rest)
+loop_closes prefix most i text rest total lt close so_far =
     let k = room_left most i lt in
-    sym so_far ∙ ap (λ (n : ℕ). with_front front (params_at n text)) k ∙ ap (with_front front) (one_closed (most - (i + 1)) text rest close) ∙ ap (λ (kinds : List Kind). some (kinds, rest)) (append-nil front)
+    sym so_far ∙ ap (λ (n : ℕ). with_prefix prefix (params_at n text)) k ∙ ap (with_prefix prefix) (one_closed (most - (i + 1)) text rest close) ∙ ap (λ (kinds : List Kind). some (kinds, rest)) (append-nil prefix)
 
-pub loop_fails : (why : DescriptorRefusal) (front : List Kind) (most i : ℕ) (text : List ℕ) (total : Option Params) → i < most → after_close text ≡ None → Reads (λ x. x) (Err why) (kind_at text)
-    → with_front front (params_at (most - i) text) ≡ total → Reads (λ x. x) (Err why) total
-loop_fails Memory front most i text total lt goes read so_far = tt
-loop_fails BadDescriptor front most i text total lt goes read so_far =
+pub loop_fails : (why : DescriptorRefusal) (prefix : List Kind) (most i : ℕ) (text : List ℕ) (total : Option Params) → i < most → after_close text ≡ None → Reads (λ x. x) (Err why) (kind_at text)
+    → with_prefix prefix (params_at (most - i) text) ≡ total → Reads (λ x. x) (Err why) total
+loop_fails Memory prefix most i text total lt goes read so_far = tt
+loop_fails BadDescriptor prefix most i text total lt goes read so_far =
     let k = room_left most i lt in
     let one : goes_on (most - (i + 1)) text ≡ None = rw read refl in
-    sym so_far ∙ ap (λ (n : ℕ). with_front front (params_at n text)) k ∙ ap (with_front front) (one_on (most - (i + 1)) text goes ∙ one)
+    sym so_far ∙ ap (λ (n : ℕ). with_prefix prefix (params_at n text)) k ∙ ap (with_prefix prefix) (one_on (most - (i + 1)) text goes ∙ one)
 
-pub loop_ends : (front : List Kind) (most i : ℕ) (text : List ℕ) (total : Option Params) → most ≤ i → with_front front (params_at (most - i) text) ≡ total → total ≡ None
+pub loop_ends : (prefix : List Kind) (most i : ℕ) (text : List ℕ) (total : Option Params) → most ≤ i → with_prefix prefix (params_at (most - i) text) ≡ total → total ≡ None
 unfolding params_at
-loop_ends front most i text total le so_far =
+loop_ends prefix most i text total le so_far =
     let k : most - i ≡ 0 = omega arith in
-    sym so_far ∙ ap (λ (n : ℕ). with_front front (params_at n text)) k
+    sym so_far ∙ ap (λ (n : ℕ). with_prefix prefix (params_at n text)) k

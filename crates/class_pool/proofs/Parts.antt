@@ -1,4 +1,4 @@
--- An entry is a tag and the parts behind it.
+-- An entry is a tag and the parts after it.
 use Rattle.std.proofs.Common.{◌≡◌, ℕ, ℤ, ◌^◌, ◌<◌, eqb, List, [], ◌∷◌, ◌++◌, length, take, drop, Option, Some, None, Result, Ok, refl, ap, ◌∙◌, arith, rules, length-drop, inl, inr}
 use Rattle.std.specs.Prelude.{FitsSigned, pos, negsuc}
 use Rattle.std.specs.Int.{w32, cast_signed, cast_unsigned}
@@ -33,7 +33,7 @@ tag_of (MethodHandle kind index) = TagMethodHandle
 tag_of (MethodType descriptor) = TagMethodType
 tag_of (InvokeDynamic bootstrap name_and_type) = TagInvokeDynamic
 
--- a text has its length in front of it
+-- a text has its length before it
 abbrev pub size_bytes : Const → List ℕ
 size_bytes (Utf8 text) = u2 (length text)
 size_bytes _ = []
@@ -208,7 +208,7 @@ two_numbers : (parts : List ℕ) → IsBytes parts → length parts ≡ 4 → u2
 two_numbers parts fits len =
     let second = number_2 (drop 2 parts) (IsBytes-drop 2 parts fits) (omega (arith, length-drop 2 parts)) in
     let first = back_2 parts (omega arith) fits in
-    ap (λ (front : List ℕ). front ++ u2 (big_number 2 (drop 2 parts))) first ∙ ap (λ (rest : List ℕ). take 2 parts ++ rest) second ∙ take-append-drop 2 parts
+    ap (λ (prefix : List ℕ). prefix ++ u2 (big_number 2 (drop 2 parts))) first ∙ ap (λ (rest : List ℕ). take 2 parts ++ rest) second ∙ take-append-drop 2 parts
 
 number_fits : (parts : List ℕ) → IsBytes parts → big_number 2 parts < 2 ^ 16
 number_fits parts fits = big_from-lt 0 2 parts fits

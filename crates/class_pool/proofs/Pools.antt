@@ -1,4 +1,4 @@
--- A pool is read where it is spelled, and bytes are refused for what is wrong first.
+-- A pool is read where it is encoded, and bytes are refused for what is wrong first.
 use Rattle.std.proofs.Common.{◌≡◌, ◌⊎◌, ℕ, ◌+◌, ◌-◌, ◌^◌, ◌<◌, ◌≤◌, false, cond, eqb, List, ◌∷◌, ◌++◌, length, drop, Option, Some, None, Result, Ok, Err, refl, sym, ap, subst, ◌∙◌, append_assoc, arith, inl, inr, length-append, length-drop}
 use Rattle.std.specs.Prelude.{IsTrue, IfOk, IfErr}
 use Rattle.std.specs.List.{flat_map}
@@ -6,35 +6,35 @@ use Rattle.std.proofs.lemmas.Bool.{cases_Bool, eqb-true, eqb-false, ne_eqb}
 use Rattle.std.proofs.lemmas.List.{drop_at, drop-drop}
 use Rattle.class_pool.specs.declared.refusal.PoolRefusal.{PoolRefusal}
 use Rattle.class_pool.specs.declared.refusal.PoolRefusal.TheVariants.{Truncated, BadTag, BadIndex, BadUtf8, Memory}
-use Rattle.class_pool.specs.Pool.{Places, is_linked, FitsEntry, place_bytes, AreSpaced, EachEntry, pool_bytes, IsPool, IsPoolAt}
+use Rattle.class_pool.specs.Pool.{Slots, is_linked, FitsEntry, slot_bytes, AreSpaced, EachEntry, pool_bytes, IsPool, IsPoolAt}
 use Rattle.class_pool.specs.PoolRefused.{IsEntryRefused, IsRefusedEntry, IsFirstUnlinked, HasNoCount, IsRefused, Gives}
-use Rattle.class_pool.specs.PoolReading.{u2_at, places_at, first_unlinked, checked, pool_at, pool_from}
+use Rattle.class_pool.specs.PoolReading.{u2_at, slots_at, first_unlinked, checked, pool_at, pool_from}
 use Rattle.class_pool.proofs.Steps.{u2, IsBytes, IsBytes-drop, bind_then, bind_fails, ok_is, same_why, no_failure, then_ok, then_err, err_says, Takes, joined, u2_takes, u2_fails, u2_short, u2_again}
 use Rattle.class_pool.proofs.Linked.{Found, none_says, none_again, some_says, some_again}
-use Rattle.class_pool.proofs.PlaceLists.{HasSecond, places_again, places_refused, places_taken, FailsPlaces, places_fail}
+use Rattle.class_pool.proofs.SlotLists.{HasSecond, slots_again, slots_refused, slots_taken, FailsSlots, slots_fail}
 
--- ---- the places behind a count
+-- ---- the places after a count
 
 abbrev Read : Type 0
-Read = Result (Places × List ℕ) PoolRefusal
+Read = Result (Slots × List ℕ) PoolRefusal
 
 abbrev counted : ℕ × List ℕ → Read
-counted count = cond (eqb count.0 0) (Err (BadIndex 0)) (places_at false 1 (count.0 - 1) count.1)
+counted count = cond (eqb count.0 0) (Err (BadIndex 0)) (slots_at false 1 (count.0 - 1) count.1)
 
-abbrev tested : Places × List ℕ → Read
-tested places = checked places (first_unlinked places.0 1 places.0)
+abbrev tested : Slots × List ℕ → Read
+tested slots = checked slots (first_unlinked slots.0 1 slots.0)
 
 none_counted : (rest : List ℕ) → counted (0, rest) ≡ Err (BadIndex 0)
 none_counted rest = refl
 
-some_counted : (count : ℕ) (rest : List ℕ) → 1 ≤ count → counted (count, rest) ≡ places_at false 1 (count - 1) rest
+some_counted : (count : ℕ) (rest : List ℕ) → 1 ≤ count → counted (count, rest) ≡ slots_at false 1 (count - 1) rest
 some_counted count rest some = rw (ne_eqb count 0 (λ e. omega (arith, some, e))) refl
 
 no_second : (room : ℕ) → HasSecond false room
 no_second room e = absurd cc
 
--- a count is 0, or the places behind it are read
-count_cases : (count : ℕ × List ℕ) (r : Read) → counted count ≡ r → ((count.0 ≡ 0) × (r ≡ Err (BadIndex 0))) ⊎ ((1 ≤ count.0) × (places_at false 1 (count.0 - 1) count.1 ≡ r))
+-- a count is 0, or the places after it are read
+count_cases : (count : ℕ × List ℕ) (r : Read) → counted count ≡ r → ((count.0 ≡ 0) × (r ≡ Err (BadIndex 0))) ⊎ ((1 ≤ count.0) × (slots_at false 1 (count.0 - 1) count.1 ≡ r))
 count_cases count r e =
     elim (cases_Bool (eqb count.0 0)) [
       | inl t ↦ inl (eqb-true _ _ t, sym (rw t at e))
@@ -44,79 +44,79 @@ count_cases count r e =
     ]
 
 -- the places of a pool, each fine by itself
-pub record ArePlaces (places : Places) : Type 0 where
-  pub count : length places < 65535
-  pub fits : EachEntry FitsEntry places
-  pub spaced : AreSpaced places
+pub record AreSlots (slots : Slots) : Type 0 where
+  pub count : length slots < 65535
+  pub fits : EachEntry FitsEntry slots
+  pub spaced : AreSpaced slots
 
-front_taken : (bytes : List ℕ) (count : ℕ × List ℕ) (x : Places × List ℕ) → Takes bytes (u2 count.0) count.1 → count.0 < 2 ^ 16 → counted count ≡ Ok x → Takes bytes (pool_bytes x.0) x.1 × ArePlaces x.0
-front_taken bytes count x front lt e =
+prefix_taken : (bytes : List ℕ) (count : ℕ × List ℕ) (x : Slots × List ℕ) → Takes bytes (u2 count.0) count.1 → count.0 < 2 ^ 16 → counted count ≡ Ok x → Takes bytes (pool_bytes x.0) x.1 × AreSlots x.0
+prefix_taken bytes count x prefix lt e =
     elim (count_cases count (Ok x) e) [
       | inl none ↦ absurd (no_failure x (BadIndex 0) none.1)
       | inr some ↦
-          let t = places_taken false 1 (count.0 - 1) count.1 x (no_second (count.0 - 1)) front.rest_fits some.1 in
+          let t = slots_taken false 1 (count.0 - 1) count.1 x (no_second (count.0 - 1)) prefix.rest_fits some.1 in
           let count_is : count.0 ≡ length x.0 + 1 = omega (arith, t.count_is, some.0) in
-          let spelled : Takes bytes (u2 (length x.0 + 1)) count.1 = subst (λ (n : ℕ). Takes bytes (u2 n) count.1) count_is front in
-          (joined spelled t.takes, record { count = omega (arith, count_is, lt); fits = t.fits; spaced = t.spaced })
+          let encoded : Takes bytes (u2 (length x.0 + 1)) count.1 = subst (λ (n : ℕ). Takes bytes (u2 n) count.1) count_is prefix in
+          (joined encoded t.takes, record { count = omega (arith, count_is, lt); fits = t.fits; spaced = t.spaced })
     ]
 
--- what is spelled is read, up to the test of what the entries name
-front_again : (places : Places) (rest : List ℕ) → ArePlaces places → pool_at (pool_bytes places ++ rest) ≡ tested (places, rest)
+-- what is encoded is read, up to the test of what the entries name
+prefix_again : (slots : Slots) (rest : List ℕ) → AreSlots slots → pool_at (pool_bytes slots ++ rest) ≡ tested (slots, rest)
 unfolding pool_at
-front_again places rest are =
-    let whole : pool_bytes places ++ rest ≡ u2 (length places + 1) ++ (flat_map place_bytes places ++ rest) = append_assoc (u2 (length places + 1)) (flat_map place_bytes places) rest in
-    let small : length places + 1 < 2 ^ 16 = omega (arith, are.count) in
-    let room : length places + 1 - 1 ≡ length places = omega arith in
-    let read : counted (length places + 1, flat_map place_bytes places ++ rest) ≡ Ok (places, rest) = some_counted (length places + 1) (flat_map place_bytes places ++ rest) (omega arith) ∙ rw room (places_again false 1 places rest are.fits are.spaced) in
-    ap pool_at whole ∙ then_ok _ _ (u2_again (length places + 1) (flat_map place_bytes places ++ rest) small) (then_ok _ _ read refl)
+prefix_again slots rest are =
+    let whole : pool_bytes slots ++ rest ≡ u2 (length slots + 1) ++ (flat_map slot_bytes slots ++ rest) = append_assoc (u2 (length slots + 1)) (flat_map slot_bytes slots) rest in
+    let small : length slots + 1 < 2 ^ 16 = omega (arith, are.count) in
+    let room : length slots + 1 - 1 ≡ length slots = omega arith in
+    let read : counted (length slots + 1, flat_map slot_bytes slots ++ rest) ≡ Ok (slots, rest) = some_counted (length slots + 1) (flat_map slot_bytes slots ++ rest) (omega arith) ∙ rw room (slots_again false 1 slots rest are.fits are.spaced) in
+    ap pool_at whole ∙ then_ok _ _ (u2_again (length slots + 1) (flat_map slot_bytes slots ++ rest) small) (then_ok _ _ read refl)
 
 -- ---- pools
 
-pub pool_again : (pool : Places) (rest : List ℕ) → IsPool pool → pool_at (pool_bytes pool ++ rest) ≡ Ok (pool, rest)
+pub pool_again : (pool : Slots) (rest : List ℕ) → IsPool pool → pool_at (pool_bytes pool ++ rest) ≡ Ok (pool, rest)
 pool_again pool rest is =
-    front_again pool rest (record { count = is.count; fits = is.fits; spaced = is.spaced }) ∙ ap (checked (pool, rest)) (none_again pool pool 1 is.linked)
+    prefix_again pool rest (record { count = is.count; fits = is.fits; spaced = is.spaced }) ∙ ap (checked (pool, rest)) (none_again pool pool 1 is.linked)
 
-abbrev read_as : Places × List ℕ → Result (Places × List ℕ) PoolRefusal
+abbrev read_as : Slots × List ℕ → Result (Slots × List ℕ) PoolRefusal
 read_as x = Ok x
 
 -- what is read once is read as one pool
-pub same_parts : (x y : Places × List ℕ) → read_as x ≡ read_as y → (x.0 ≡ y.0) × (x.1 ≡ y.1)
+pub same_parts : (x y : Slots × List ℕ) → read_as x ≡ read_as y → (x.0 ≡ y.0) × (x.1 ≡ y.1)
 same_parts x y e = (cc, cc)
 
-checked_ok : (places : Places × List ℕ) (found : Option ℕ) (x : Places × List ℕ) → checked places found ≡ Ok x → (found ≡ None) × (places ≡ x)
-checked_ok places None x e = (refl, ok_is places x e)
-checked_ok places (Some index) x e = absurd (no_failure x (BadIndex index) (sym e))
+checked_ok : (slots : Slots × List ℕ) (found : Option ℕ) (x : Slots × List ℕ) → checked slots found ≡ Ok x → (found ≡ None) × (slots ≡ x)
+checked_ok slots None x e = (refl, ok_is slots x e)
+checked_ok slots (Some index) x e = absurd (no_failure x (BadIndex index) (sym e))
 
-checked_err : (places : Places × List ℕ) (found : Option ℕ) (why : PoolRefusal) → checked places found ≡ Err why → (index : ℕ) × (found ≡ Some index) × (why ≡ BadIndex index)
-checked_err places None why e = absurd (no_failure places why e)
-checked_err places (Some index) why e = (index, refl, same_why {A = Places × List ℕ} (BadIndex index) why e)
+checked_err : (slots : Slots × List ℕ) (found : Option ℕ) (why : PoolRefusal) → checked slots found ≡ Err why → (index : ℕ) × (found ≡ Some index) × (why ≡ BadIndex index)
+checked_err slots None why e = absurd (no_failure slots why e)
+checked_err slots (Some index) why e = (index, refl, same_why {A = Slots × List ℕ} (BadIndex index) why e)
 
-pub pool_taken : (bytes : List ℕ) (x : Places × List ℕ) → IsBytes bytes → pool_at bytes ≡ Ok x → Takes bytes (pool_bytes x.0) x.1 × IsPool x.0
+pub pool_taken : (bytes : List ℕ) (x : Slots × List ℕ) → IsBytes bytes → pool_at bytes ≡ Ok x → Takes bytes (pool_bytes x.0) x.1 × IsPool x.0
 unfolding pool_at
 pool_taken bytes x fits e =
-    bind_then (u2_at bytes) _ x e (λ count at_count e_places.
-    bind_then (counted count) _ x e_places (λ places at_places e_x.
+    bind_then (u2_at bytes) _ x e (λ count at_count e_slots.
+    bind_then (counted count) _ x e_slots (λ slots at_slots e_x.
     let n = u2_takes bytes count fits at_count in
-    let t = front_taken bytes count places n.0 n.1 at_places in
-    let c = checked_ok places (first_unlinked places.0 1 places.0) x e_x in
-    let is : IsPool places.0 = record { count = t.1.count; fits = t.1.fits; spaced = t.1.spaced; linked = none_says places.0 places.0 1 c.0 } in
-    subst (λ (y : Places × List ℕ). Takes bytes (pool_bytes y.0) y.1 × IsPool y.0) c.1 (t.0, is)))
+    let t = prefix_taken bytes count slots n.0 n.1 at_slots in
+    let c = checked_ok slots (first_unlinked slots.0 1 slots.0) x e_x in
+    let is : IsPool slots.0 = record { count = t.1.count; fits = t.1.fits; spaced = t.1.spaced; linked = none_says slots.0 slots.0 1 c.0 } in
+    subst (λ (y : Slots × List ℕ). Takes bytes (pool_bytes y.0) y.1 × IsPool y.0) c.1 (t.0, is)))
 
 -- ---- refusals
 
 entry_refused_so : (bytes : List ℕ) (why : PoolRefusal) → IsRefusedEntry bytes why → pool_at bytes ≡ Err why
 unfolding pool_at
 entry_refused_so bytes why r =
-    let rest : List ℕ = flat_map place_bytes r.places ++ r.rest in
-    let places : places_at false 1 (r.count - 1) rest ≡ Err why =
-    places_refused false 1 (r.count - 1) (length r.places + 1) (r.count - (length r.places + 1)) r.places r.rest why r.fits r.spaced (omega (arith, r.before_count)) (omega arith, omega (arith, r.before_count)) r.refused in
-    ap pool_at r.spelled ∙ then_ok _ _ (u2_again r.count rest r.count_fits) (then_err _ (some_counted r.count rest (omega (arith, r.before_count)) ∙ places))
+    let rest : List ℕ = flat_map slot_bytes r.slots ++ r.rest in
+    let slots : slots_at false 1 (r.count - 1) rest ≡ Err why =
+    slots_refused false 1 (r.count - 1) (length r.slots + 1) (r.count - (length r.slots + 1)) r.slots r.rest why r.fits r.spaced (omega (arith, r.before_count)) (omega arith, omega (arith, r.before_count)) r.refused in
+    ap pool_at r.encoded ∙ then_ok _ _ (u2_again r.count rest r.count_fits) (then_err _ (some_counted r.count rest (omega (arith, r.before_count)) ∙ slots))
 
 unlinked_so : (bytes : List ℕ) (index : ℕ) → IsFirstUnlinked bytes index → pool_at bytes ≡ Err (BadIndex index)
 unlinked_so bytes index r =
-    let pool : Places = r.before ++ Some r.entry ∷ r.after in
+    let pool : Slots = r.before ++ Some r.entry ∷ r.after in
     let found : first_unlinked pool 1 pool ≡ Some index = some_again pool r.before r.after r.entry 1 r.linked r.unlinked ∙ ap (λ (n : ℕ). Some n) (sym r.index_is) in
-    ap pool_at r.spelled ∙ front_again pool r.rest (record { count = r.count; fits = r.fits; spaced = r.spaced }) ∙ ap (checked (pool, r.rest)) found
+    ap pool_at r.encoded ∙ prefix_again pool r.rest (record { count = r.count; fits = r.fits; spaced = r.spaced }) ∙ ap (checked (pool, r.rest)) found
 
 no_count_so : (bytes : List ℕ) (index : ℕ) → index ≡ 0 → HasNoCount bytes → pool_at bytes ≡ Err (BadIndex index)
 unfolding pool_at
@@ -146,54 +146,54 @@ from_entry bytes (BadUtf8 index) r = r
 from_entry bytes (BadIndex index) r = absurd r.refused
 from_entry bytes Memory r = absurd r.refused
 
-entry_failed : (bytes : List ℕ) (count : ℕ × List ℕ) (why : PoolRefusal) → Takes bytes (u2 count.0) count.1 → count.0 < 2 ^ 16 → 1 ≤ count.0 → FailsPlaces false 1 (count.0 - 1) count.1 why → IsRefusedEntry bytes why
-entry_failed bytes count why front lt some f =
-    let i_is : f.i ≡ length f.places + 1 = omega (arith, f.at.0) in
-    let r_is : f.r ≡ count.0 - (length f.places + 1) = omega (arith, f.at.1) in
+entry_failed : (bytes : List ℕ) (count : ℕ × List ℕ) (why : PoolRefusal) → Takes bytes (u2 count.0) count.1 → count.0 < 2 ^ 16 → 1 ≤ count.0 → FailsSlots false 1 (count.0 - 1) count.1 why → IsRefusedEntry bytes why
+entry_failed bytes count why prefix lt some f =
+    let i_is : f.i ≡ length f.slots + 1 = omega (arith, f.at.0) in
+    let r_is : f.r ≡ count.0 - (length f.slots + 1) = omega (arith, f.at.1) in
     record {
       count = count.0;
-      places = f.places;
+      slots = f.slots;
       rest = f.rest;
       count_fits = lt;
-      spelled = front.parts ∙ ap (λ (t : List ℕ). u2 count.0 ++ t) f.spelled;
+      encoded = prefix.parts ∙ ap (λ (t : List ℕ). u2 count.0 ++ t) f.encoded;
       fits = f.fits;
       spaced = f.spaced;
       before_count = omega (arith, f.before);
-      refused = subst (λ (n : ℕ). IsEntryRefused (length f.places + 1) n f.rest why) r_is (subst (λ (n : ℕ). IsEntryRefused n f.r f.rest why) i_is f.refused);
+      refused = subst (λ (n : ℕ). IsEntryRefused (length f.slots + 1) n f.rest why) r_is (subst (λ (n : ℕ). IsEntryRefused n f.r f.rest why) i_is f.refused);
     }
 
 count_failed : (bytes : List ℕ) (count : ℕ × List ℕ) (why : PoolRefusal) → Takes bytes (u2 count.0) count.1 → count.0 < 2 ^ 16 → counted count ≡ Err why → IsRefused bytes why
-count_failed bytes count why front lt e =
+count_failed bytes count why prefix lt e =
     elim (count_cases count (Err why) e) [
       | inl none ↦
-          let spelled : bytes ≡ u2 0 ++ count.1 = front.parts ∙ ap (λ (n : ℕ). u2 n ++ count.1) none.0 in
-          subst (IsRefused bytes) (same_why {A = Places × List ℕ} why (BadIndex 0) none.1) (inl (refl, (count.1, spelled)))
-      | inr some ↦ from_entry bytes why (entry_failed bytes count why front lt some.0 (places_fail false 1 (count.0 - 1) count.1 why front.rest_fits some.1))
+          let encoded : bytes ≡ u2 0 ++ count.1 = prefix.parts ∙ ap (λ (n : ℕ). u2 n ++ count.1) none.0 in
+          subst (IsRefused bytes) (same_why {A = Slots × List ℕ} why (BadIndex 0) none.1) (inl (refl, (count.1, encoded)))
+      | inr some ↦ from_entry bytes why (entry_failed bytes count why prefix lt some.0 (slots_fail false 1 (count.0 - 1) count.1 why prefix.rest_fits some.1))
     ]
 
-unlinked_made : (bytes : List ℕ) (places : Places × List ℕ) (index : ℕ) → Takes bytes (pool_bytes places.0) places.1 → ArePlaces places.0 → Found places.0 places.0 1 index → IsFirstUnlinked bytes index
-unlinked_made bytes places index front are f =
+unlinked_made : (bytes : List ℕ) (slots : Slots × List ℕ) (index : ℕ) → Takes bytes (pool_bytes slots.0) slots.1 → AreSlots slots.0 → Found slots.0 slots.0 1 index → IsFirstUnlinked bytes index
+unlinked_made bytes slots index prefix are f =
     let parts = f.parts in
-    let are_parts : ArePlaces (f.before ++ Some f.entry ∷ f.after) = subst ArePlaces parts are in
+    let are_parts : AreSlots (f.before ++ Some f.entry ∷ f.after) = subst AreSlots parts are in
     record {
       before = f.before;
       entry = f.entry;
       after = f.after;
-      rest = places.1;
+      rest = slots.1;
       count = are_parts.count;
-      spelled = front.parts ∙ ap (λ (ps : Places). pool_bytes ps ++ places.1) parts;
+      encoded = prefix.parts ∙ ap (λ (ps : Slots). pool_bytes ps ++ slots.1) parts;
       fits = are_parts.fits;
       spaced = are_parts.spaced;
-      linked = subst (λ (ps : Places). EachEntry (λ other. IsTrue (is_linked ps other)) f.before) parts f.linked;
-      unlinked = ap (λ (ps : Places). is_linked ps f.entry) (sym parts) ∙ f.unlinked;
+      linked = subst (λ (ps : Slots). EachEntry (λ other. IsTrue (is_linked ps other)) f.before) parts f.linked;
+      unlinked = ap (λ (ps : Slots). is_linked ps f.entry) (sym parts) ∙ f.unlinked;
       index_is = f.index_is;
     }
 
-link_failed : (bytes : List ℕ) (places : Places × List ℕ) (why : PoolRefusal) → Takes bytes (pool_bytes places.0) places.1 → ArePlaces places.0 → tested places ≡ Err why → IsRefused bytes why
-link_failed bytes places why front are e =
-    let c = checked_err places (first_unlinked places.0 1 places.0) why e in
-    let f = some_says places.0 places.0 1 c.0 c.1 in
-    let is : IsFirstUnlinked bytes c.0 = unlinked_made bytes places c.0 front are f in
+link_failed : (bytes : List ℕ) (slots : Slots × List ℕ) (why : PoolRefusal) → Takes bytes (pool_bytes slots.0) slots.1 → AreSlots slots.0 → tested slots ≡ Err why → IsRefused bytes why
+link_failed bytes slots why prefix are e =
+    let c = checked_err slots (first_unlinked slots.0 1 slots.0) why e in
+    let f = some_says slots.0 slots.0 1 c.0 c.1 in
+    let is : IsFirstUnlinked bytes c.0 = unlinked_made bytes slots c.0 prefix are f in
     subst (IsRefused bytes) (sym c.2) (inr is)
 
 pub pool_fails : (bytes : List ℕ) (why : PoolRefusal) → IsBytes bytes → pool_at bytes ≡ Err why → IsRefused bytes why
@@ -207,45 +207,45 @@ pool_fails bytes why fits e =
           let n = u2_takes bytes count.0 fits count.1 in
           elim (bind_fails (counted count.0) _ why count.2) [
             | inl bad ↦ count_failed bytes count.0 why n.0 n.1 bad
-            | inr places ↦
-                let t = front_taken bytes count.0 places.0 n.0 n.1 places.1 in
-                link_failed bytes places.0 why t.0 t.1 places.2
+            | inr slots ↦
+                let t = prefix_taken bytes count.0 slots.0 n.0 n.1 slots.1 in
+                link_failed bytes slots.0 why t.0 t.1 slots.2
           ]
     ]
 
 -- ---- from a place on
 
-abbrev done : Places × ℕ → Result (Places × ℕ) PoolRefusal
+abbrev done : Slots × ℕ → Result (Slots × ℕ) PoolRefusal
 done x = Ok x
 
--- the place behind the pool
-abbrev behind : List ℕ → Places × List ℕ → Places × ℕ
-behind bytes x = (x.0, length bytes - length x.1)
+-- the place after the pool
+abbrev suffix : List ℕ → Slots × List ℕ → Slots × ℕ
+suffix bytes x = (x.0, length bytes - length x.1)
 
-pub rest_is_short : (bytes : List ℕ) (x : Places × List ℕ) → IsBytes bytes → pool_at bytes ≡ Ok x → length x.1 ≤ length bytes
+pub rest_is_short : (bytes : List ℕ) (x : Slots × List ℕ) → IsBytes bytes → pool_at bytes ≡ Ok x → length x.1 ≤ length bytes
 rest_is_short bytes x fits e =
     let t = pool_taken bytes x fits e in
     omega (arith, ap length t.0.parts, length-append (pool_bytes x.0) x.1)
 
-from_taken : (bytes : List ℕ) (at : ℕ) (x : Places × List ℕ) → IsBytes bytes → at ≤ length bytes → pool_at (drop at bytes) ≡ Ok x → IsPoolAt bytes at x.0 (length bytes - length x.1)
+from_taken : (bytes : List ℕ) (at : ℕ) (x : Slots × List ℕ) → IsBytes bytes → at ≤ length bytes → pool_at (drop at bytes) ≡ Ok x → IsPoolAt bytes at x.0 (length bytes - length x.1)
 from_taken bytes at x fits le e =
     let t = pool_taken (drop at bytes) x (IsBytes-drop at bytes fits) e in
     let len : length bytes - at ≡ length (pool_bytes x.0) + length x.1 = sym (length-drop at bytes) ∙ ap length t.0.parts ∙ length-append (pool_bytes x.0) x.1 in
     let ends : length bytes - length x.1 ≡ at + length (pool_bytes x.0) = omega (arith, len, le) in
     let rest_is : drop (length bytes - length x.1) bytes ≡ x.1 = ap (λ (n : ℕ). drop n bytes) ends ∙ sym (drop-drop (length (pool_bytes x.0)) at bytes) ∙ ap (drop (length (pool_bytes x.0))) t.0.parts ∙ drop_at (pool_bytes x.0) x.1 (length (pool_bytes x.0)) refl in
-    record { is_pool = t.1; spelled = t.0.parts ∙ ap (λ (rest : List ℕ). pool_bytes x.0 ++ rest) (sym rest_is); ends = ends }
+    record { is_pool = t.1; encoded = t.0.parts ∙ ap (λ (rest : List ℕ). pool_bytes x.0 ++ rest) (sym rest_is); ends = ends }
 
-pub from_found : (bytes : List ℕ) (at : ℕ) (y : Places × ℕ) → IsBytes bytes → at ≤ length bytes → pool_from bytes at ≡ Ok y → IsPoolAt bytes at y.0 y.1
+pub from_found : (bytes : List ℕ) (at : ℕ) (y : Slots × ℕ) → IsBytes bytes → at ≤ length bytes → pool_from bytes at ≡ Ok y → IsPoolAt bytes at y.0 y.1
 unfolding pool_from
 from_found bytes at y fits le e =
     bind_then (pool_at (drop at bytes)) _ y e (λ x at_x e_y.
-    subst (λ (z : Places × ℕ). IsPoolAt bytes at z.0 z.1) (ok_is (behind bytes x) y e_y) (from_taken bytes at x fits le at_x))
+    subst (λ (z : Slots × ℕ). IsPoolAt bytes at z.0 z.1) (ok_is (suffix bytes x) y e_y) (from_taken bytes at x fits le at_x))
 
-pub from_read : (bytes : List ℕ) (at : ℕ) (pool : Places) (end : ℕ) → at ≤ length bytes → IsPoolAt bytes at pool end → pool_from bytes at ≡ Ok (pool, end)
+pub from_read : (bytes : List ℕ) (at : ℕ) (pool : Slots) (end : ℕ) → at ≤ length bytes → IsPoolAt bytes at pool end → pool_from bytes at ≡ Ok (pool, end)
 unfolding pool_from
 from_read bytes at pool end le is =
-    let read : pool_at (drop at bytes) ≡ Ok (pool, drop end bytes) = ap pool_at is.spelled ∙ pool_again pool (drop end bytes) is.is_pool in
-    let len : length bytes - at ≡ length (pool_bytes pool) + length (drop end bytes) = sym (length-drop at bytes) ∙ ap length is.spelled ∙ length-append (pool_bytes pool) (drop end bytes) in
+    let read : pool_at (drop at bytes) ≡ Ok (pool, drop end bytes) = ap pool_at is.encoded ∙ pool_again pool (drop end bytes) is.is_pool in
+    let len : length bytes - at ≡ length (pool_bytes pool) + length (drop end bytes) = sym (length-drop at bytes) ∙ ap length is.encoded ∙ length-append (pool_bytes pool) (drop end bytes) in
     let end_is : length bytes - length (drop end bytes) ≡ end = omega (arith, len, le, is.ends, length-drop end bytes) in
     then_ok _ _ read (ap (λ (n : ℕ). done (pool, n)) end_is)
 
@@ -258,19 +258,19 @@ unfolding pool_from
 from_fails bytes at why fits e =
     elim (bind_fails (pool_at (drop at bytes)) _ why e) [
       | inl bad ↦ pool_fails (drop at bytes) why (IsBytes-drop at bytes fits) bad
-      | inr x ↦ absurd (no_failure (behind bytes x.0) why x.2)
+      | inr x ↦ absurd (no_failure (suffix bytes x.0) why x.2)
     ]
 
 -- ---- what a call answers
 
-pub is_found : (bytes : List ℕ) (at : ℕ) (result : Result (Places × ℕ) PoolRefusal) → IsBytes bytes → at ≤ length bytes → Gives result (pool_from bytes at) → IfOk result (λ x. IsPoolAt bytes at x.0 x.1)
+pub is_found : (bytes : List ℕ) (at : ℕ) (result : Result (Slots × ℕ) PoolRefusal) → IsBytes bytes → at ≤ length bytes → Gives result (pool_from bytes at) → IfOk result (λ x. IsPoolAt bytes at x.0 x.1)
 is_found bytes at (Ok x) fits le e = from_found bytes at x fits le e
 is_found bytes at (Err why) fits le e = tt
 
-pub is_read : (bytes : List ℕ) (at : ℕ) (result : Result (Places × ℕ) PoolRefusal) → at ≤ length bytes → Gives result (pool_from bytes at) → (pool : Places) (end : ℕ) → IsPoolAt bytes at pool end → Gives result (Ok (pool, end))
+pub is_read : (bytes : List ℕ) (at : ℕ) (result : Result (Slots × ℕ) PoolRefusal) → at ≤ length bytes → Gives result (pool_from bytes at) → (pool : Slots) (end : ℕ) → IsPoolAt bytes at pool end → Gives result (Ok (pool, end))
 is_read bytes at result le e pool end is = subst (Gives result) (from_read bytes at pool end le is) e
 
-pub is_refused : (bytes : List ℕ) (at : ℕ) (result : Result (Places × ℕ) PoolRefusal) → IsBytes bytes → Gives result (pool_from bytes at) → IfErr result (λ why. (why ≡ Memory) ⊎ IsRefused (drop at bytes) why)
+pub is_refused : (bytes : List ℕ) (at : ℕ) (result : Result (Slots × ℕ) PoolRefusal) → IsBytes bytes → Gives result (pool_from bytes at) → IfErr result (λ why. (why ≡ Memory) ⊎ IsRefused (drop at bytes) why)
 is_refused bytes at (Ok x) fits e = tt
 is_refused bytes at (Err why) fits e =
     elim (err_says (λ x. x) why (pool_from bytes at) e) [
@@ -278,5 +278,5 @@ is_refused bytes at (Err why) fits e =
       | inr is ↦ inr (from_fails bytes at why fits is)
     ]
 
-pub is_answered : (bytes : List ℕ) (at : ℕ) (result : Result (Places × ℕ) PoolRefusal) → Gives result (pool_from bytes at) → (why : PoolRefusal) → IsRefused (drop at bytes) why → Gives result (Err why)
+pub is_answered : (bytes : List ℕ) (at : ℕ) (result : Result (Slots × ℕ) PoolRefusal) → Gives result (pool_from bytes at) → (why : PoolRefusal) → IsRefused (drop at bytes) why → Gives result (Err why)
 is_answered bytes at result e why r = subst (Gives result) (from_refused bytes at why r) e

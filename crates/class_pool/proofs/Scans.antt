@@ -4,7 +4,7 @@ use Rattle.std.proofs.lemmas.Bool.{ne_eqb, eq-eqb}
 use Rattle.std.proofs.lemmas.List.{drop_all}
 use Rattle.class_pool.specs.DescriptorReading.{◌>>=◌, after_byte, name_size, brackets}
 
--- the byte at i, and those behind it
+-- the byte at i, and those after it
 at_byte : (text : List ℕ) (i : ℕ) → i < length text → drop i text ≡ get_or text i 0 ∷ drop (i + 1) text
 at_byte text i lt = drop-cons text i 0 lt ∙ ap (λ (n : ℕ). get_or text i 0 ∷ drop n text) (sym (add-one i))
 

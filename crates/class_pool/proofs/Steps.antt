@@ -102,7 +102,7 @@ err_shows view (BadTag index) read (inr e) = e
 err_shows view (BadIndex index) read (inr e) = e
 err_shows view (BadUtf8 index) read (inr e) = e
 
--- ---- what is taken from the front
+-- ---- what is taken from the prefix
 
 pub record Takes (bytes text rest : List ℕ) : Type 0 where
   pub parts : bytes ≡ text ++ rest
@@ -111,7 +111,7 @@ pub record Takes (bytes text rest : List ℕ) : Type 0 where
 pub joined : {a x b y c : List ℕ} → Takes a x b → Takes b y c → Takes a (x ++ y) c
 joined {a} {x} {b} {y} {c} p q = record { parts = p.parts ∙ ap (λ (t : List ℕ). x ++ t) q.parts ∙ sym (append_assoc x y c); rest_fits = q.rest_fits }
 
--- the bytes of the number at the front are those that stand there
+-- the bytes of the number at the prefix are those that stand there
 pub back_2 : (bytes : List ℕ) → 2 ≤ length bytes → IsBytes bytes → u2 (big_number 2 bytes) ≡ take 2 bytes
 back_2 bytes long fits =
     let same : big_number 2 (take 2 bytes) ≡ from_be_bytes w16 (take 2 bytes) = omega arith in
@@ -159,8 +159,8 @@ unfolding u2_at
 u2_again n rest lt =
     let long : ltb (length (u2 n ++ rest)) 2 ≡ false = le-ltb _ _ (omega (arith, length-append (u2 n) rest)) in
     let number : big_number 2 (u2 n ++ rest) ≡ n = big_number-reads_back 2 n rest lt in
-    let behind : drop 2 (u2 n ++ rest) ≡ rest = drop_at (u2 n) rest 2 refl in
-    rw long (ap (λ (x : ℕ × List ℕ). Ok x) (both number behind))
+    let suffix : drop 2 (u2 n ++ rest) ≡ rest = drop_at (u2 n) rest 2 refl in
+    rw long (ap (λ (x : ℕ × List ℕ). Ok x) (both number suffix))
 
 pub slice_takes : (size : ℕ) (bytes : List ℕ) (x : List ℕ × List ℕ) → IsBytes bytes → slice_at size bytes ≡ Ok x → Takes bytes x.0 x.1 × (length x.0 ≡ size) × IsBytes x.0
 unfolding slice_at

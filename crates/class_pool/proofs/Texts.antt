@@ -8,7 +8,7 @@ use Rattle.class_pool.specs.PoolReading.{is_single, is_last, is_double, is_tripl
 
 -- ---- unit by unit
 
--- what stands behind a unit is a text where the whole is one
+-- what follows a unit is a text where the whole is one
 pub step : (bytes rest : List ℕ) → after_unit bytes ≡ Some rest → (is_modified_utf8 bytes ≡ is_modified_utf8 rest) × (length rest < length bytes)
 unfolding after_unit is_modified_utf8
 step [] rest e = absurd cc
@@ -52,7 +52,7 @@ step (a ∷ b ∷ c ∷ bytes) rest e =
           ]
     ]
 
--- where no unit stands at the front, the bytes are no text
+-- where no unit is at the prefix, the bytes are no text
 pub stuck : (bytes : List ℕ) → after_unit bytes ≡ None → 0 < length bytes → is_modified_utf8 bytes ≡ false
 unfolding after_unit is_modified_utf8
 stuck [] e some = absurd (omega arith)
@@ -165,49 +165,49 @@ triple_unit a b c e =
 
 -- ---- the test finds texts alone
 
--- a unit in front of a text
-pub in_front : (unit : ℕ) (bytes : List ℕ) → unit < 2 ^ 16 → IsModifiedUtf8 bytes → IsModifiedUtf8 (unit_bytes unit ++ bytes)
-in_front unit bytes small t = record {
+-- a unit before a text
+pub in_prefix : (unit : ℕ) (bytes : List ℕ) → unit < 2 ^ 16 → IsModifiedUtf8 bytes → IsModifiedUtf8 (unit_bytes unit ++ bytes)
+in_prefix unit bytes small t = record {
   units = unit ∷ t.units;
   small = (small, t.small);
-  spelled = ap (λ (x : List ℕ). unit_bytes unit ++ x) t.spelled ∙ sym (flat_map-cons unit_bytes unit t.units);
+  encoded = ap (λ (x : List ℕ). unit_bytes unit ++ x) t.encoded ∙ sym (flat_map-cons unit_bytes unit t.units);
 }
 
-in_front_as : (unit : ℕ) (text bytes : List ℕ) → unit < 2 ^ 16 → unit_bytes unit ≡ text → IsModifiedUtf8 bytes → IsModifiedUtf8 (text ++ bytes)
-in_front_as unit text bytes small e t = subst (λ (x : List ℕ). IsModifiedUtf8 (x ++ bytes)) e (in_front unit bytes small t)
+in_prefix_as : (unit : ℕ) (text bytes : List ℕ) → unit < 2 ^ 16 → unit_bytes unit ≡ text → IsModifiedUtf8 bytes → IsModifiedUtf8 (text ++ bytes)
+in_prefix_as unit text bytes small e t = subst (λ (x : List ℕ). IsModifiedUtf8 (x ++ bytes)) e (in_prefix unit bytes small t)
 
 no_unit : IsModifiedUtf8 []
-no_unit = record { units = []; small = tt; spelled = refl }
+no_unit = record { units = []; small = tt; encoded = refl }
 
 pub text_takes : (bytes : List ℕ) → is_modified_utf8 bytes ≡ true → IsModifiedUtf8 bytes
 unfolding is_modified_utf8
 text_takes [] e = no_unit
 text_takes (a ∷ []) e =
     let s = single_says a e in
-    in_front_as a (a ∷ []) [] (omega (arith, s.1)) (single a s.0 s.1) no_unit
+    in_prefix_as a (a ∷ []) [] (omega (arith, s.1)) (single a s.0 s.1) no_unit
 text_takes (a ∷ b ∷ []) e =
     elim (cases_Bool (is_single a)) [
       | inl t ↦
           let s = single_says a t in
-          in_front_as a (a ∷ []) (b ∷ []) (omega (arith, s.1)) (single a s.0 s.1) (text_takes (b ∷ []) (rw t at e))
+          in_prefix_as a (a ∷ []) (b ∷ []) (omega (arith, s.1)) (single a s.0 s.1) (text_takes (b ∷ []) (rw t at e))
       | inr f ↦
           let u = double_unit a b (rw f at e) in
-          in_front_as u.0 (a ∷ b ∷ []) [] u.1 u.2 no_unit
+          in_prefix_as u.0 (a ∷ b ∷ []) [] u.1 u.2 no_unit
     ]
 text_takes (a ∷ b ∷ c ∷ bytes) e =
     elim (cases_Bool (is_single a)) [
       | inl t ↦
           let s = single_says a t in
-          in_front_as a (a ∷ []) (b ∷ c ∷ bytes) (omega (arith, s.1)) (single a s.0 s.1) (text_takes (b ∷ c ∷ bytes) (rw t at e))
+          in_prefix_as a (a ∷ []) (b ∷ c ∷ bytes) (omega (arith, s.1)) (single a s.0 s.1) (text_takes (b ∷ c ∷ bytes) (rw t at e))
       | inr f ↦
           elim (cases_Bool (is_double a b)) [
             | inl t ↦
                 let u = double_unit a b t in
-                in_front_as u.0 (a ∷ b ∷ []) (c ∷ bytes) u.1 u.2 (text_takes (c ∷ bytes) (rw (f, t) at e))
+                in_prefix_as u.0 (a ∷ b ∷ []) (c ∷ bytes) u.1 u.2 (text_takes (c ∷ bytes) (rw (f, t) at e))
             | inr f2 ↦
                 let p = and_parts (is_triple a b c) (is_modified_utf8 bytes) (rw (f, f2) at e) in
                 let u = triple_unit a b c p.0 in
-                in_front_as u.0 (a ∷ b ∷ c ∷ []) bytes u.1 u.2 (text_takes bytes p.1)
+                in_prefix_as u.0 (a ∷ b ∷ c ∷ []) bytes u.1 u.2 (text_takes bytes p.1)
           ]
     ]
 
@@ -246,16 +246,16 @@ double_not a b high =
 
 triple_at : (a b c : ℕ) → (a ≡ 224) × (160 ≤ b) ⊎ (224 < a) × (a < 240) → is_last b ≡ true → is_last c ≡ true → is_triple a b c ≡ true
 triple_at a b c lead middle last =
-    let front : ((eqb a 224 && leb 160 b) || (ltb 224 a && ltb a 240)) ≡ true =
+    let prefix : ((eqb a 224 && leb 160 b) || (ltb 224 a && ltb a 240)) ≡ true =
     elim lead [
       | inl lowest ↦ or_left (eqb a 224 && leb 160 b) (ltb 224 a && ltb a 240) (and_from (eqb a 224) (leb 160 b) (eq-eqb a 224 lowest.0) (le-leb 160 b lowest.1))
       | inr other ↦ or_right (eqb a 224 && leb 160 b) (ltb 224 a && ltb a 240) (and_from (ltb 224 a) (ltb a 240) (lt-ltb 224 a other.0) (lt-ltb a 240 other.1))
     ] in
-    and_from ((eqb a 224 && leb 160 b) || (ltb 224 a && ltb a 240)) (is_last b && is_last c) front (and_from (is_last b) (is_last c) middle last)
+    and_from ((eqb a 224 && leb 160 b) || (ltb 224 a && ltb a 240)) (is_last b && is_last c) prefix (and_from (is_last b) (is_last c) middle last)
 
--- the unit at the front is found by its size
-front_unit : (unit : ℕ) (bytes : List ℕ) → unit < 2 ^ 16 → after_unit (unit_bytes unit ++ bytes) ≡ Some bytes
-front_unit unit bytes small =
+-- the unit at the prefix is found by its size
+prefix_unit : (unit : ℕ) (bytes : List ℕ) → unit < 2 ^ 16 → after_unit (unit_bytes unit ++ bytes) ≡ Some bytes
+prefix_unit unit bytes small =
     elim (cases_lt 0 unit) [
       | inr none ↦
           let e : unit ≡ 0 = omega arith in
@@ -286,14 +286,14 @@ front_unit unit bytes small =
           ]
     ]
 
-behind_unit : (unit : ℕ) (bytes : List ℕ) → unit < 2 ^ 16 → is_modified_utf8 (unit_bytes unit ++ bytes) ≡ is_modified_utf8 bytes
-behind_unit unit bytes small = (step (unit_bytes unit ++ bytes) bytes (front_unit unit bytes small)).0
+unit_after : (unit : ℕ) (bytes : List ℕ) → unit < 2 ^ 16 → is_modified_utf8 (unit_bytes unit ++ bytes) ≡ is_modified_utf8 bytes
+unit_after unit bytes small = (step (unit_bytes unit ++ bytes) bytes (prefix_unit unit bytes small)).0
 
 units_again : (units : List ℕ) → AllByRecursion (λ unit. unit < 2 ^ 16) units → is_modified_utf8 (flat_map unit_bytes units) ≡ true
 unfolding is_modified_utf8
 units_again [] small = refl
 units_again (unit ∷ units) small =
-    ap is_modified_utf8 (flat_map-cons unit_bytes unit units) ∙ behind_unit unit (flat_map unit_bytes units) small.0 ∙ units_again units small.1
+    ap is_modified_utf8 (flat_map-cons unit_bytes unit units) ∙ unit_after unit (flat_map unit_bytes units) small.0 ∙ units_again units small.1
 
 pub text_again : (bytes : List ℕ) → IsModifiedUtf8 bytes → is_modified_utf8 bytes ≡ true
-text_again bytes t = ap is_modified_utf8 t.spelled ∙ units_again t.units t.small
+text_again bytes t = ap is_modified_utf8 t.encoded ∙ units_again t.units t.small

@@ -1,4 +1,4 @@
--- Reading descriptors as a function on lists: a part is a value and the bytes behind it, or None.
+-- Reading descriptors as a function on lists: a part is a value and the bytes after it, or None.
 use Rattle.std.specs.Prelude.{◌≡◌, ℕ, zero, suc, ◌+◌, Bool, true, false, ◌==◌, nat_lt, if◌then◌else◌, List, [], ◌∷◌, length, take, drop, slice_index, Option, Some, None, option_map, Result, Ok, Err}
 use Rattle.class_pool.specs.declared.descriptor.Base.{Base}
 use Rattle.class_pool.specs.declared.descriptor.Base.TheVariants.{Byte as BaseByte, Char as BaseChar, Double as BaseDouble, Float as BaseFloat, Int as BaseInt, Long as BaseLong, Short as BaseShort, Boolean as BaseBoolean, Class as BaseClass}
@@ -26,17 +26,17 @@ Answers result answer = Reads (λ x. x) result answer
 
 -- ---- class names
 
--- whether a part of a name begins behind a byte, where the name goes on with it
+-- whether a part of a name begins after a byte, where the name goes on with it
 abbrev pub after_byte : Bool → ℕ → Option Bool
 after_byte begins byte = if byte == 47 then (if begins then None else Some true) else (if is_part_byte byte then Some false else None)
 
--- how many bytes of a name stand in front of its `;`
+-- how many bytes of a name stand before its `;`
 unfoldable pub name_size : Bool → List ℕ → Option ℕ
 name_size begins [] = None
 name_size begins (byte ∷ text) =
     if byte == 59 then (if begins then None else Some 0) else (after_byte begins byte >>= λ next. option_map suc (name_size next text))
 
--- a name, and what stands behind its `;`
+-- a name, and what follows its `;`
 abbrev pub split_name : List ℕ → ℕ → List ℕ × List ℕ
 split_name text size = (take size text, drop (size + 1) text)
 
@@ -49,7 +49,7 @@ class_at text = option_map (split_name text) (name_size true text)
 abbrev pub plain_bases : List Base
 plain_bases = BaseByte ∷ BaseChar ∷ BaseDouble ∷ BaseFloat ∷ BaseInt ∷ BaseLong ∷ BaseShort ∷ BaseBoolean ∷ []
 
--- the first of these types that a letter spells
+-- the first of these types that a letter encodes
 abbrev pub base_among : List Base → ℕ → Option Base
 base_among [] letter = None
 base_among (base ∷ bases) letter = if letter == slice_index (base_text base) 0 then Some base else base_among bases letter
@@ -63,7 +63,7 @@ base_at [] = None
 base_at (letter ∷ text) =
     if letter == 76 then (class_at text >>= λ name. Some (BaseClass name.0, name.1)) else (plain_base letter >>= λ base. Some (base, text))
 
--- how many `[` stand at the front
+-- how many `[` are at the prefix
 unfoldable pub brackets : List ℕ → ℕ
 brackets [] = 0
 brackets (letter ∷ text) = if letter == 91 then suc (brackets text) else 0
@@ -94,7 +94,7 @@ field_of text = kind_at text >>= λ kind. if length kind.1 == 0 then Some kind.0
 
 -- ---- methods
 
--- what stands behind a `)`
+-- what follows a `)`
 abbrev pub after_close : List ℕ → Option (List ℕ)
 after_close [] = None
 after_close (letter ∷ text) = if letter == 41 then Some text else None
@@ -104,7 +104,7 @@ abbrev pub closed : Option (List ℕ) → Option (List Kind × List ℕ) → Opt
 closed (Some text) others = Some ([], text)
 closed None others = others
 
--- fewer than so many parameters, and what stands behind their `)`
+-- fewer than so many parameters, and what follows their `)`
 unfoldable pub params_at : ℕ → List ℕ → Option (List Kind × List ℕ)
 params_at zero text = None
 params_at (suc most) text =

@@ -16,7 +16,7 @@ is_part_byte byte = not (byte == 46) && (not (byte == 47) && (not (byte == 59) &
 abbrev pub IsPart : List ℕ → Type 0
 IsPart part = (part ≢ []) × AllByRecursion (λ byte. IsTrue (is_part_byte byte)) part
 
--- the parts of a name behind the first, each with its `/`
+-- the parts of a name after the first, each with its `/`
 abbrev pub other_parts : List (List ℕ) → List ℕ
 other_parts parts = flat_map (λ part. 47 ∷ part) parts
 
@@ -26,7 +26,7 @@ pub record IsClassName (name : List ℕ) : Type 0 where
   pub others : List (List ℕ)
   pub first_is : IsPart first
   pub others_are : AllByRecursion IsPart others
-  pub spelled : name ≡ first ++ other_parts others
+  pub encoded : name ≡ first ++ other_parts others
 
 -- ---- types
 

@@ -1,15 +1,15 @@
--- Laws of the formats: what is spelled so is nothing else.
+-- Laws of the formats: what is encoded so is nothing else.
 use Rattle.std.specs.Prelude.{◌≡◌, ℕ, List, ◌++◌}
 use Rattle.class_pool.specs.declared.descriptor.Kind.{Kind}
 use Rattle.class_pool.specs.declared.descriptor.Descriptor.{Descriptor}
-use Rattle.class_pool.specs.Pool.{Places, pool_bytes, IsPool}
+use Rattle.class_pool.specs.Pool.{Slots, pool_bytes, IsPool}
 use Rattle.class_pool.specs.Descriptors.{IsFieldText, IsMethodText}
 
--- bytes begin with the spelling of one pool, and no spelling is a proper front of another
+-- bytes begin with the encoding of one pool, and no encoding is a proper prefix of another
 abbrev pub BeginsWithOnePool : Type 0
 BeginsWithOnePool =
-    (first second : Places) (behind_first behind_second : List ℕ) → IsPool first → IsPool second → pool_bytes first ++ behind_first ≡ pool_bytes second ++ behind_second
-    → (first ≡ second) × (behind_first ≡ behind_second)
+    (first second : Slots) (after_first after_second : List ℕ) → IsPool first → IsPool second → pool_bytes first ++ after_first ≡ pool_bytes second ++ after_second
+    → (first ≡ second) × (after_first ≡ after_second)
 
 -- a text is the descriptor of one type
 abbrev pub NamesOneType : Type 0

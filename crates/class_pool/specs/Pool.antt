@@ -7,13 +7,13 @@ use Rattle.class_pool.specs.declared.pool.Const.{Const}
 use Rattle.class_pool.specs.declared.pool.Const.TheVariants.{Utf8, Integer, Float, Long, Double, Class, String, Field, Method, InterfaceMethod, NameAndType, MethodHandle, MethodType, InvokeDynamic}
 use Rattle.class_pool.specs.Utf8.{IsModifiedUtf8}
 
-abbrev pub Places : Type 0
-Places = List (Option Const)
+abbrev pub Slots : Type 0
+Slots = List (Option Const)
 
 -- the entry at an index: none at 0, and none past the end
-abbrev pub entry_at : Places → ℕ → Option Const
+abbrev pub entry_at : Slots → ℕ → Option Const
 entry_at pool zero = None
-entry_at pool (suc place) = option_and_then (λ entry. entry) (slice_get pool place)
+entry_at pool (suc slot) = option_and_then (λ entry. entry) (slice_get pool slot)
 
 -- what an entry of each kind names, where it is of that kind
 abbrev pub text_of : Const → Option (List ℕ)
@@ -37,27 +37,27 @@ name_and_type_of (NameAndType name descriptor) = Some (name, descriptor)
 name_and_type_of _ = None
 
 -- the text, the whole number and the name of the class at an index
-abbrev pub utf8_at : Places → ℕ → Option (List ℕ)
+abbrev pub utf8_at : Slots → ℕ → Option (List ℕ)
 utf8_at pool index = option_and_then text_of (entry_at pool index)
 
-abbrev pub integer_at : Places → ℕ → Option ℤ
+abbrev pub integer_at : Slots → ℕ → Option ℤ
 integer_at pool index = option_and_then integer_of (entry_at pool index)
 
-abbrev pub class_name_at : Places → ℕ → Option (List ℕ)
+abbrev pub class_name_at : Slots → ℕ → Option (List ℕ)
 class_name_at pool index = option_and_then (utf8_at pool) (option_and_then class_of (entry_at pool index))
 
 -- the entry at an index is of this kind
-abbrev pub is_utf8_at : Places → ℕ → Bool
+abbrev pub is_utf8_at : Slots → ℕ → Bool
 is_utf8_at pool index = is_some (utf8_at pool index)
 
-abbrev pub is_class_at : Places → ℕ → Bool
+abbrev pub is_class_at : Slots → ℕ → Bool
 is_class_at pool index = is_some (option_and_then class_of (entry_at pool index))
 
-abbrev pub is_name_and_type_at : Places → ℕ → Bool
+abbrev pub is_name_and_type_at : Slots → ℕ → Bool
 is_name_and_type_at pool index = is_some (option_and_then name_and_type_of (entry_at pool index))
 
 -- the entries that an entry names are there and of their kinds (JVMS 4.4.1 to 4.4.10)
-abbrev pub is_linked : Places → Const → Bool
+abbrev pub is_linked : Slots → Const → Bool
 is_linked pool (Utf8 text) = true
 is_linked pool (Integer value) = true
 is_linked pool (Float bits) = true
@@ -116,10 +116,10 @@ entry_bytes (MethodHandle kind index) = 15 ∷ kind ∷ big_bytes 2 index
 entry_bytes (MethodType descriptor) = 16 ∷ big_bytes 2 descriptor
 entry_bytes (InvokeDynamic bootstrap name_and_type) = 18 ∷ (big_bytes 2 bootstrap ++ big_bytes 2 name_and_type)
 
--- a place without an entry spells nothing
-abbrev pub place_bytes : Option Const → List ℕ
-place_bytes None = []
-place_bytes (Some entry) = entry_bytes entry
+-- a place without an entry encodes nothing
+abbrev pub slot_bytes : Option Const → List ℕ
+slot_bytes None = []
+slot_bytes (Some entry) = entry_bytes entry
 
 -- a long and a double take two places (JVMS 4.4.5)
 abbrev pub is_wide : Const → Bool
@@ -131,40 +131,40 @@ is_wide _ = false
 abbrev pub width : Const → ℕ
 width entry = if is_wide entry then 2 else 1
 
--- the places behind one that is, or is not, the first of two
-abbrev pub AreSpacedAfter : Bool → Places → Type 0
+-- the places after one that is, or is not, the first of two
+abbrev pub AreSpacedAfter : Bool → Slots → Type 0
 AreSpacedAfter false [] = Unit {0}
-AreSpacedAfter false (None ∷ places) = ⊥
-AreSpacedAfter false (Some entry ∷ places) = AreSpacedAfter (is_wide entry) places
+AreSpacedAfter false (None ∷ slots) = ⊥
+AreSpacedAfter false (Some entry ∷ slots) = AreSpacedAfter (is_wide entry) slots
 AreSpacedAfter true [] = ⊥
-AreSpacedAfter true (None ∷ places) = AreSpacedAfter false places
-AreSpacedAfter true (Some entry ∷ places) = ⊥
+AreSpacedAfter true (None ∷ slots) = AreSpacedAfter false slots
+AreSpacedAfter true (Some entry ∷ slots) = ⊥
 
 -- each place without an entry is the second of a long or a double, and no other is
-abbrev pub AreSpaced : Places → Type 0
-AreSpaced places = AreSpacedAfter false places
+abbrev pub AreSpaced : Slots → Type 0
+AreSpaced slots = AreSpacedAfter false slots
 
 -- the fact of each entry
-abbrev pub EachEntry : (Const → Type 0) → Places → Type 0
+abbrev pub EachEntry : (Const → Type 0) → Slots → Type 0
 EachEntry P [] = Unit {0}
-EachEntry P (None ∷ places) = EachEntry P places
-EachEntry P (Some entry ∷ places) = P entry × EachEntry P places
+EachEntry P (None ∷ slots) = EachEntry P slots
+EachEntry P (Some entry ∷ slots) = P entry × EachEntry P slots
 
 -- ---- the pool
 
 -- the count, which is one more than the number of places, and the entries (JVMS 4.1)
-abbrev pub pool_bytes : Places → List ℕ
-pool_bytes pool = big_bytes 2 (length pool + 1) ++ flat_map place_bytes pool
+abbrev pub pool_bytes : Slots → List ℕ
+pool_bytes pool = big_bytes 2 (length pool + 1) ++ flat_map slot_bytes pool
 
 -- the places are those of a constant pool
-pub record IsPool (pool : Places) : Type 0 where
+pub record IsPool (pool : Slots) : Type 0 where
   pub count : length pool < 65535
   pub fits : EachEntry FitsEntry pool
   pub spaced : AreSpaced pool
   pub linked : EachEntry (λ entry. IsTrue (is_linked pool entry)) pool
 
--- a pool is spelled at a place of the bytes, up to the place behind it
-pub record IsPoolAt (bytes : List ℕ) (at : ℕ) (pool : Places) (behind : ℕ) : Type 0 where
+-- a pool is encoded at a place of the bytes, up to the place after it
+pub record IsPoolAt (bytes : List ℕ) (at : ℕ) (pool : Slots) (suffix : ℕ) : Type 0 where
   pub is_pool : IsPool pool
-  pub spelled : drop at bytes ≡ pool_bytes pool ++ drop behind bytes
-  pub ends : behind ≡ at + length (pool_bytes pool)
+  pub encoded : drop at bytes ≡ pool_bytes pool ++ drop suffix bytes
+  pub ends : suffix ≡ at + length (pool_bytes pool)

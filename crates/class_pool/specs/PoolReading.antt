@@ -1,4 +1,4 @@
--- Reading a constant pool as a function on lists: a part is a value and the bytes behind it, or a
+-- Reading a constant pool as a function on lists: a part is a value and the bytes after it, or a
 -- refusal.
 use Rattle.std.specs.Prelude.{ℕ, zero, suc, ◌-◌, Bool, true, false, ◌&&◌, ◌||◌, ◌==◌, nat_lt, nat_le, if◌then◌else◌, List, [], ◌∷◌, length, take, drop, slice_index, Option, Some, None, Result, Ok, Err}
 use Rattle.std.specs.Int.{w32, cast_signed}
@@ -9,7 +9,7 @@ use Rattle.class_pool.specs.declared.tag.Tag.{Tag}
 use Rattle.class_pool.specs.declared.tag.Tag.TheVariants.{Utf8 as TagUtf8, Integer as TagInteger, Float as TagFloat, Long as TagLong, Double as TagDouble, Class as TagClass, String as TagString, Fieldref, Methodref, InterfaceMethodref, NameAndType as TagNameAndType, MethodHandle as TagMethodHandle, MethodType as TagMethodType, InvokeDynamic as TagInvokeDynamic}
 use Rattle.class_pool.specs.declared.refusal.PoolRefusal.{PoolRefusal}
 use Rattle.class_pool.specs.declared.refusal.PoolRefusal.TheVariants.{Truncated, BadTag, BadIndex, BadUtf8}
-use Rattle.class_pool.specs.Pool.{Places, is_linked, is_wide}
+use Rattle.class_pool.specs.Pool.{Slots, is_linked, is_wide}
 
 infixl 10 ◌>>=◌
 abbrev pub ◌>>=◌ : {A B : Type 0} → Result A PoolRefusal → (A → Result B PoolRefusal) → Result B PoolRefusal
@@ -40,7 +40,7 @@ is_modified_utf8 (a ∷ b ∷ c ∷ bytes) =
     if is_single a then is_modified_utf8 (b ∷ c ∷ bytes)
     else (if is_double a b then is_modified_utf8 (c ∷ bytes) else is_triple a b c && is_modified_utf8 bytes)
 
--- the bytes behind the unit at the front
+-- the bytes after the unit at the prefix
 unfoldable pub after_unit : List ℕ → Option (List ℕ)
 after_unit [] = None
 after_unit (a ∷ []) = if is_single a then Some [] else None
@@ -114,7 +114,7 @@ u2_at bytes = if nat_lt (length bytes) 2 then Err Truncated else Ok (big_number 
 unfoldable pub slice_at : ℕ → List ℕ → Result (List ℕ × List ℕ) PoolRefusal
 slice_at size bytes = if nat_lt (length bytes) size then Err Truncated else Ok (take size bytes, drop size bytes)
 
--- how many bytes the parts have, and the bytes behind that
+-- how many bytes the parts have, and the bytes after that
 unfoldable pub size_at : Tag → List ℕ → Result (ℕ × List ℕ) PoolRefusal
 size_at TagUtf8 bytes = u2_at bytes
 size_at tag bytes = Ok (parts_size tag, bytes)
@@ -144,7 +144,7 @@ entry_of index TagMethodHandle parts = Ok (MethodHandle (slice_index parts 0) (b
 entry_of index TagMethodType parts = Ok (MethodType (big_number 2 parts))
 entry_of index TagInvokeDynamic parts = Ok (InvokeDynamic (pair_of parts).0 (pair_of parts).1)
 
--- what stands behind the tag of an entry
+-- what follows the tag of an entry
 unfoldable pub body_at : ℕ → Tag → List ℕ → Result (Const × List ℕ) PoolRefusal
 body_at index tag bytes = do
   size ← size_at tag bytes
@@ -157,7 +157,7 @@ abbrev pub tagged_at : ℕ → ℕ → Option Tag → List ℕ → Result (Const
 tagged_at index room None bytes = Err (BadTag index)
 tagged_at index room (Some tag) bytes = if nat_lt room (tag_width tag) then Err (BadTag index) else body_at index tag bytes
 
--- an entry: its tag, and what stands behind it
+-- an entry: its tag, and what follows it
 unfoldable pub entry_at : ℕ → ℕ → List ℕ → Result (Const × List ℕ) PoolRefusal
 entry_at index room [] = Err Truncated
 entry_at index room (byte ∷ bytes) = tagged_at index room (tag_of_byte byte) bytes
@@ -165,9 +165,9 @@ entry_at index room (byte ∷ bytes) = tagged_at index room (tag_of_byte byte) b
 -- ---- places
 
 -- a place, where the one before it is, or is not, the first of two
-unfoldable pub place_at : Bool → ℕ → ℕ → List ℕ → Result (Option Const × List ℕ) PoolRefusal
-place_at true index room bytes = Ok (None, bytes)
-place_at false index room bytes = entry_at index room bytes >>= λ entry. Ok (Some entry.0, entry.1)
+unfoldable pub slot_at : Bool → ℕ → ℕ → List ℕ → Result (Option Const × List ℕ) PoolRefusal
+slot_at true index room bytes = Ok (None, bytes)
+slot_at false index room bytes = entry_at index room bytes >>= λ entry. Ok (Some entry.0, entry.1)
 
 -- the place is the first of two
 abbrev pub is_first_of_two : Option Const → Bool
@@ -175,38 +175,38 @@ is_first_of_two None = false
 is_first_of_two (Some entry) = is_wide entry
 
 -- so many places, from an index on
-unfoldable pub places_at : Bool → ℕ → ℕ → List ℕ → Result (Places × List ℕ) PoolRefusal
-places_at second index zero bytes = Ok ([], bytes)
-places_at second index (suc room) bytes = do
-  first ← place_at second index (suc room) bytes
-  others ← places_at (is_first_of_two first.0) (suc index) room first.1
+unfoldable pub slots_at : Bool → ℕ → ℕ → List ℕ → Result (Slots × List ℕ) PoolRefusal
+slots_at second index zero bytes = Ok ([], bytes)
+slots_at second index (suc room) bytes = do
+  first ← slot_at second index (suc room) bytes
+  others ← slots_at (is_first_of_two first.0) (suc index) room first.1
   Ok (first.0 ∷ others.0, others.1)
 
 -- ---- what the entries name
 
 -- the entry at a place is linked in the pool
-abbrev pub is_place_linked : Places → Option Const → Bool
-is_place_linked pool None = true
-is_place_linked pool (Some entry) = is_linked pool entry
+abbrev pub is_slot_linked : Slots → Option Const → Bool
+is_slot_linked pool None = true
+is_slot_linked pool (Some entry) = is_linked pool entry
 
 -- the index of the first place, from an index on, that is not linked
-unfoldable pub first_unlinked : Places → ℕ → Places → Option ℕ
+unfoldable pub first_unlinked : Slots → ℕ → Slots → Option ℕ
 first_unlinked pool index [] = None
-first_unlinked pool index (place ∷ places) = if is_place_linked pool place then first_unlinked pool (suc index) places else Some index
+first_unlinked pool index (slot ∷ slots) = if is_slot_linked pool slot then first_unlinked pool (suc index) slots else Some index
 
 -- ---- the pool
 
-abbrev pub checked : Places × List ℕ → Option ℕ → Result (Places × List ℕ) PoolRefusal
-checked places None = Ok places
-checked places (Some index) = Err (BadIndex index)
+abbrev pub checked : Slots × List ℕ → Option ℕ → Result (Slots × List ℕ) PoolRefusal
+checked slots None = Ok slots
+checked slots (Some index) = Err (BadIndex index)
 
 -- the count, the places, and the first of them that is not linked
-unfoldable pub pool_at : List ℕ → Result (Places × List ℕ) PoolRefusal
+unfoldable pub pool_at : List ℕ → Result (Slots × List ℕ) PoolRefusal
 pool_at bytes = do
   count ← u2_at bytes
-  places ← (if count.0 == 0 then Err (BadIndex 0) else places_at false 1 (count.0 - 1) count.1)
-  checked places (first_unlinked places.0 1 places.0)
+  slots ← (if count.0 == 0 then Err (BadIndex 0) else slots_at false 1 (count.0 - 1) count.1)
+  checked slots (first_unlinked slots.0 1 slots.0)
 
--- the pool at a place, and the place behind it
-unfoldable pub pool_from : List ℕ → ℕ → Result (Places × ℕ) PoolRefusal
+-- the pool at a place, and the place after it
+unfoldable pub pool_from : List ℕ → ℕ → Result (Slots × ℕ) PoolRefusal
 pool_from bytes at = pool_at (drop at bytes) >>= λ pool. Ok (pool.0, length bytes - length pool.1)

@@ -7,18 +7,18 @@ use Rattle.class_pool.specs.declared.pool.Const.TheVariants.{Utf8}
 use Rattle.class_pool.specs.declared.refusal.PoolRefusal.{PoolRefusal}
 use Rattle.class_pool.specs.declared.refusal.PoolRefusal.TheVariants.{Truncated, BadTag, BadIndex, BadUtf8, Memory}
 use Rattle.class_pool.specs.Utf8.{IsModifiedUtf8}
-use Rattle.class_pool.specs.Pool.{Places, is_linked, FitsFields, FitsEntry, entry_bytes, place_bytes, width, AreSpaced, EachEntry, pool_bytes}
+use Rattle.class_pool.specs.Pool.{Slots, is_linked, FitsFields, FitsEntry, entry_bytes, slot_bytes, width, AreSpaced, EachEntry, pool_bytes}
 
 -- ---- one entry, with room for so many places up to the count
 
 -- the bytes end within an entry that has room; a text may be any bytes
 pub record IsCut (room : ℕ) (bytes : List ℕ) : Type 0 where
   pub entry : Const
-  pub behind : List ℕ
+  pub suffix : List ℕ
   pub fits : FitsFields entry
   pub has_room : width entry ≤ room
-  pub spelled : bytes ++ behind ≡ entry_bytes entry
-  pub proper : behind ≢ []
+  pub encoded : bytes ++ suffix ≡ entry_bytes entry
+  pub proper : suffix ≢ []
 
 -- no entry that has room begins with the first byte
 pub record IsBadTag (room : ℕ) (bytes : List ℕ) : Type 0 where
@@ -45,28 +45,28 @@ IsEntryRefused index room bytes Memory = ⊥
 
 -- ---- the first entry that is refused
 
--- behind the count there are so many entries that are fine, and the next one is refused so
+-- after the count there are so many entries that are fine, and the next one is refused so
 pub record IsRefusedEntry (bytes : List ℕ) (why : PoolRefusal) : Type 0 where
   pub count : ℕ
-  pub places : Places
+  pub slots : Slots
   pub rest : List ℕ
   pub count_fits : count < 2 ^ 16
-  pub spelled : bytes ≡ big_bytes 2 count ++ (flat_map place_bytes places ++ rest)
-  pub fits : EachEntry FitsEntry places
-  pub spaced : AreSpaced places
-  pub before_count : length places + 1 < count
-  pub refused : IsEntryRefused (length places + 1) (count - (length places + 1)) rest why
+  pub encoded : bytes ≡ big_bytes 2 count ++ (flat_map slot_bytes slots ++ rest)
+  pub fits : EachEntry FitsEntry slots
+  pub spaced : AreSpaced slots
+  pub before_count : length slots + 1 < count
+  pub refused : IsEntryRefused (length slots + 1) (count - (length slots + 1)) rest why
 
 -- ---- the first entry that names what is not there
 
 -- all entries are fine by themselves, and the one at this index is the first that is not linked
 pub record IsFirstUnlinked (bytes : List ℕ) (index : ℕ) : Type 0 where
-  pub before : Places
+  pub before : Slots
   pub entry : Const
-  pub after : Places
+  pub after : Slots
   pub rest : List ℕ
   pub count : length (before ++ Some entry ∷ after) < 65535
-  pub spelled : bytes ≡ pool_bytes (before ++ Some entry ∷ after) ++ rest
+  pub encoded : bytes ≡ pool_bytes (before ++ Some entry ∷ after) ++ rest
   pub fits : EachEntry FitsEntry (before ++ Some entry ∷ after)
   pub spaced : AreSpaced (before ++ Some entry ∷ after)
   pub linked : EachEntry (λ other. IsTrue (is_linked (before ++ Some entry ∷ after) other)) before

@@ -9,8 +9,8 @@ unit_bytes unit =
     else (if nat_lt unit 2048 then (192 + unit / 64) ∷ (128 + unit % 64) ∷ []
     else (224 + unit / 4096) ∷ (128 + unit / 64 % 64) ∷ (128 + unit % 64) ∷ [])
 
--- the bytes spell some units; halves of surrogate pairs may stand alone
+-- the bytes encode some units; halves of surrogate pairs may stand alone
 pub record IsModifiedUtf8 (bytes : List ℕ) : Type 0 where
   pub units : List ℕ
   pub small : AllByRecursion (λ unit. unit < 2 ^ 16) units
-  pub spelled : bytes ≡ flat_map unit_bytes units
+  pub encoded : bytes ≡ flat_map unit_bytes units

@@ -1,4 +1,4 @@
-//! An entry of the constant pool (JVMS 4.4) is a tag and the parts behind it.
+//! An entry of the constant pool (JVMS 4.4) is a tag and the parts after it.
 
 ghost use Rattle.std.specs.Prelude.{◌≡◌, ◌≤◌, length};
 ghost use Rattle.class_pool.specs.PoolRefused.{Shows};
@@ -12,7 +12,7 @@ use byteorder::{BigEndian, ByteOrder};
 use item_list::Items;
 use std::alloc::Global;
 
-/// A `u2`, and the bytes behind it.
+/// A `u2`, and the bytes after it.
 #[tactic(auto, unfolding(crate::specs::PoolReading::u2_at))]
 pub(crate) fn u2_at(bytes: &[u8]) -> Result<(u16, &[u8]), PoolRefusal>
     ensures { Shows (λ x. (x.0, x.1.now)) result (u2_at bytes.now) }
@@ -23,7 +23,7 @@ pub(crate) fn u2_at(bytes: &[u8]) -> Result<(u16, &[u8]), PoolRefusal>
     Ok((BigEndian::read_u16(bytes), &bytes[2..]))
 }
 
-/// So many bytes, and those behind them.
+/// So many bytes, and those after them.
 #[tactic(auto, unfolding(crate::specs::PoolReading::slice_at))]
 fn slice_at(size: usize, bytes: &[u8]) -> Result<(&[u8], &[u8]), PoolRefusal>
     ensures { Shows (λ x. (x.0.now, x.1.now)) result (slice_at size bytes.now) }
@@ -34,7 +34,7 @@ fn slice_at(size: usize, bytes: &[u8]) -> Result<(&[u8], &[u8]), PoolRefusal>
     Ok(bytes.split_at(size))
 }
 
-/// How many bytes the parts of an entry have, and the bytes behind that number.
+/// How many bytes the parts of an entry have, and the bytes after that number.
 #[tactic(auto, unfolding(crate::specs::PoolReading::size_at))]
 fn size_at(tag: Tag, bytes: &[u8]) -> Result<(usize, &[u8]), PoolRefusal>
     ensures { Shows (λ x. (x.0, x.1.now)) result (size_at tag bytes.now) }
@@ -106,7 +106,7 @@ fn entry_of(alloc: Global, index: u16, tag: Tag, parts: &[u8]) -> Result<Const, 
     Ok(entry)
 }
 
-/// What stands behind the tag of the entry at an index.
+/// What follows the tag of the entry at an index.
 #[tactic(auto, unfolding(crate::specs::PoolReading::body_at))]
 fn body_at(alloc: Global, index: u16, tag: Tag, bytes: &[u8]) -> Result<(Const, &[u8]), PoolRefusal>
     ensures { Shows (λ x. (x.0, x.1.now)) result (body_at index tag bytes.now) }

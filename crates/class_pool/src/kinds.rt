@@ -10,7 +10,7 @@ use crate::pool::Text;
 use item_list::Items;
 use std::alloc::Global;
 
-/// Whether a part of a class name begins behind this byte, where the name goes on with it.
+/// Whether a part of a class name begins after this byte, where the name goes on with it.
 fn after_byte(begins: bool, byte: u8) -> Option<bool>
     ensures { result ≡ after_byte begins byte }
 {
@@ -22,7 +22,7 @@ fn after_byte(begins: bool, byte: u8) -> Option<bool>
     }
 }
 
-/// How many bytes the class name at the front has (JVMS 4.2.1), up to its `;`.
+/// How many bytes the class name at the prefix has (JVMS 4.2.1), up to its `;`.
 fn name_size(text: &[u8]) -> Option<usize>
     ensures value { result ≡ name_size true text.now }
     ensures within { IfSome result (λ size. size < length text.now) }
@@ -39,7 +39,7 @@ fn name_size(text: &[u8]) -> Option<usize>
     None
 }
 
-/// The class name at the front, and what stands behind its `;`.
+/// The class name at the prefix, and what follows its `;`.
 #[tactic(auto, unfolding(crate::specs::DescriptorReading::class_at))]
 fn class_at(alloc: Global, text: &[u8]) -> Result<(Text, &[u8]), DescriptorRefusal>
     ensures { Reads (λ x. (x.0, x.1.now)) result (class_at text.now) }
@@ -70,7 +70,7 @@ fn plain_base(letter: u8) -> Option<Base>
     }
 }
 
-/// The type at the front that is no array, and the bytes behind it.
+/// The type at the prefix that is no array, and the bytes after it.
 #[tactic(auto, unfolding(crate::specs::DescriptorReading::base_at))]
 fn base_at(alloc: Global, text: &[u8]) -> Result<(Base, &[u8]), DescriptorRefusal>
     ensures { Reads (λ x. (x.0, x.1.now)) result (base_at text.now) }
@@ -88,7 +88,7 @@ fn base_at(alloc: Global, text: &[u8]) -> Result<(Base, &[u8]), DescriptorRefusa
     }
 }
 
-/// How many `[` stand at the front.
+/// How many `[` are at the prefix.
 fn brackets(text: &[u8]) -> usize
     ensures value { result ≡ brackets text.now }
     ensures within { result ≤ length text.now }
@@ -130,7 +130,7 @@ fn kind_with(dims: u8, base: Base) -> Kind
     Kind::Array { dims, of: base }
 }
 
-/// The type at the front, and the bytes behind it.
+/// The type at the prefix, and the bytes after it.
 #[tactic(auto, unfolding(crate::specs::DescriptorReading::kind_at))]
 pub(crate) fn kind_at(alloc: Global, text: &[u8]) -> Result<(Kind, &[u8]), DescriptorRefusal>
     ensures { Reads (λ x. (x.0, x.1.now)) result (kind_at text.now) }

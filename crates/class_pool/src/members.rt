@@ -5,7 +5,7 @@ ghost use Rattle.class_pool.specs.Members.{name_and_type_at, method_name_at};
 
 use crate::pool::{Const, Pool};
 
-/// A class's name, a member's name and its descriptor, as their texts spell them.
+/// A class's name, a member's name and its descriptor, as their texts encode them.
 #[derive(Clone, Copy, Debug, PartialEq, Eq)]
 pub struct MemberName<'a> {
     pub class: &'a [u8],

@@ -11,7 +11,7 @@ use crate::kinds::{field_of, kind_at};
 use item_list::Items;
 use std::alloc::Global;
 
-/// What stands behind a `)`.
+/// What follows a `)`.
 fn after_close(text: &[u8]) -> Option<&[u8]>
     ensures { option_copied result ≡ after_close text.now }
 {
@@ -21,7 +21,7 @@ fn after_close(text: &[u8]) -> Option<&[u8]>
     }
 }
 
-/// The types of the parameters, and what stands behind their `)`.
+/// The types of the parameters, and what follows their `)`.
 fn params_at(alloc: Global, text: &[u8]) -> Result<(Vec<Kind>, &[u8]), DescriptorRefusal>
     ensures { Reads (λ x. (x.0.items, x.1.now)) result (params_at (length text.now) text.now) }
 {
@@ -29,12 +29,12 @@ fn params_at(alloc: Global, text: &[u8]) -> Result<(Vec<Kind>, &[u8]), Descripto
     let mut rest = text;
     // Each parameter has a byte at least.
     for _ in 0..text.len() {
-        if let Some(behind) = after_close(rest) {
-            return Ok((params, behind));
+        if let Some(suffix) = after_close(rest) {
+            return Ok((params, suffix));
         }
-        let (kind, behind) = kind_at(alloc, rest)?;
+        let (kind, suffix) = kind_at(alloc, rest)?;
         params.push(kind)?;
-        rest = behind;
+        rest = suffix;
     }
     Err(DescriptorRefusal::BadDescriptor)
 }

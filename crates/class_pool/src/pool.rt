@@ -30,7 +30,7 @@ pub enum Const {
 /// of a long or a double has no entry.
 #[derive(Debug, Drop)]
 pub struct Pool {
-    places: Vec<Option<Const>>,
+    slots: Vec<Option<Const>>,
 }
 
 impl Model for Pool {
@@ -39,20 +39,20 @@ impl Model for Pool {
 
     ghost Value = { List (Option Const) };
 
-    ghost view = { λ pool. pool.places.items };
+    ghost view = { λ pool. pool.slots.items };
 
-    ghost invariant = { λ pool. length pool.places.items < 65535 };
+    ghost invariant = { λ pool. length pool.slots.items < 65535 };
 }
 
 impl Pool {
     ghost use Rattle.class_pool.specs.Pool.{entry_at, utf8_at, class_name_at, integer_at};
 
     /// The pool with these places, that of index 1 first.
-    pub fn from_places(places: Vec<Option<Const>>) -> Pool
-        requires { length places.items < 65535 }
-        ensures { result ≡ places.items }
+    pub fn from_slots(slots: Vec<Option<Const>>) -> Pool
+        requires { length slots.items < 65535 }
+        ensures { result ≡ slots.items }
     {
-        Pool { places }
+        Pool { slots }
     }
 
     /// The entry at an index. There is none at 0, from the count on, and at the second place of a
@@ -63,7 +63,7 @@ impl Pool {
         if index == 0 {
             return None;
         }
-        self.places.get(usize::from(index - 1))?.as_ref()
+        self.slots.get(usize::from(index - 1))?.as_ref()
     }
 
     /// The bytes of the text at an index (JVMS 4.4.7), where there is one.
@@ -97,17 +97,17 @@ impl Pool {
     }
 
     /// The places, that of index 1 first.
-    pub fn places(&self) -> &[Option<Const>]
+    pub fn slots(&self) -> &[Option<Const>]
         ensures value { result.now ≡ self.now }
         ensures count { length result.now < 65535 }
     {
-        self.places.as_slice()
+        self.slots.as_slice()
     }
 
     /// One more than the number of places, as `constant_pool_count` is.
     pub fn count(&self) -> u16
         ensures { result ≡ length self.now + 1 }
     {
-        self.places.len() as u16 + 1
+        self.slots.len() as u16 + 1
     }
 }

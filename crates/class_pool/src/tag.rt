@@ -56,7 +56,7 @@ impl Tag {
         }
     }
 
-    /// How many bytes stand behind the tag; 0 for a text, which has a length of its own.
+    /// How many bytes follow the tag; 0 for a text, which has a length of its own.
     pub(crate) fn parts_size(self) -> usize
         ensures { result ≡ parts_size self }
     {

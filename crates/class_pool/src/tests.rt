@@ -4,7 +4,7 @@ use super::*;
 use std::alloc::{AllocError, Global};
 use std::test::*;
 
-/// Two bytes, then a pool with an entry of each tag, and a byte behind it.
+/// Two bytes, then a pool with an entry of each tag, and a byte after it.
 const EACH_TAG: [u8; 75] = [
     0xca, 0xfe, 0x00, 0x11, 0x01, 0x00, 0x01, 0x41, 0x03, 0xff, 0xff, 0xff, 0xd6, 0x04, 0x3f, 0xc0,
     0x00, 0x00, 0x05, 0x01, 0x02, 0x03, 0x04, 0x05, 0x06, 0x07, 0x08, 0x06, 0x40, 0x09, 0x21, 0xfb,
@@ -13,8 +13,8 @@ const EACH_TAG: [u8; 75] = [
     0x00, 0x0d, 0x10, 0x00, 0x01, 0x12, 0xff, 0xfe, 0x00, 0x0a, 0x99,
 ];
 
-/// The place behind the pool of `EACH_TAG`.
-const BEHIND: usize = 74;
+/// The place after the pool of `EACH_TAG`.
+const SUFFIX: usize = 74;
 
 fn each_tag(alloc: Global) -> Result<Pool, Fail> {
     match read_pool(alloc, &EACH_TAG, 2) {
@@ -25,10 +25,10 @@ fn each_tag(alloc: Global) -> Result<Pool, Fail> {
 
 #[test]
 fn reads_each_tag(rt: HostRuntime) -> Result<(), Fail> {
-    let Ok((pool, behind)) = read_pool(rt.alloc(), &EACH_TAG, 2) else {
+    let Ok((pool, suffix)) = read_pool(rt.alloc(), &EACH_TAG, 2) else {
         return Err("the bytes are a pool".into());
     };
-    assert_eq!(rt; behind, BEHIND);
+    assert_eq!(rt; suffix, SUFFIX);
     assert_eq!(rt; pool.count(), 17);
     assert!(rt;
         matches!(pool.get(1), Some(Const::Utf8(text)) if text.as_slice() == b"A".as_slice())
@@ -98,15 +98,15 @@ fn names_what_the_entries_name(rt: HostRuntime) -> Result<(), Fail> {
 }
 
 #[test]
-fn each_front_is_truncated(rt: HostRuntime) {
-    for len in 2..BEHIND {
+fn each_prefix_is_truncated(rt: HostRuntime) {
+    for len in 2..SUFFIX {
         assert_eq!(rt;
             read_pool(rt.alloc(), &EACH_TAG[..len], 2).err(),
             Some(PoolRefusal::Truncated),
             "at {len}"
         );
     }
-    assert!(rt; read_pool(rt.alloc(), &EACH_TAG[..BEHIND], 2).is_ok());
+    assert!(rt; read_pool(rt.alloc(), &EACH_TAG[..SUFFIX], 2).is_ok());
 }
 
 /// A pool with this count, whose first entry is the text `A`, and whose others are these bytes.

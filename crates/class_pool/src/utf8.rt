@@ -32,7 +32,7 @@ fn is_triple(a: u8, b: u8, c: u8) -> bool
     ((a == 0xe0 && b >= 0xa0) || (a > 0xe0 && a < 0xf0)) && is_last(b) && is_last(c)
 }
 
-/// The bytes behind the unit at the front, where there is one.
+/// The bytes after the unit at the prefix, where there is one.
 #[tactic(auto, unfolding(crate::specs::PoolReading::after_unit))]
 fn after_unit(bytes: &[u8]) -> Option<&[u8]>
     ensures { option_copied result ≡ after_unit bytes.now }

@@ -12,6 +12,6 @@ abbrev pub next_byte : List ℕ → ℤ
 next_byte [] = negsuc 0
 next_byte (byte ∷ input) = pos (byte % 256)
 
-abbrev pub behind_byte : List ℕ → List ℕ
-behind_byte [] = []
-behind_byte (byte ∷ input) = input
+abbrev pub after_byte : List ℕ → List ℕ
+after_byte [] = []
+after_byte (byte ∷ input) = input

@@ -1,4 +1,4 @@
--- Dialogues on a console, one behind the other.
+-- Dialogues on a console, one after the other.
 use Rattle.std.proofs.Common.{◌≡◌, ℕ, ◌≤◌, List, [], ◌∷◌, ◌++◌, Option, Some, None, Result, Ok, Err, refl, sym, ap, ◌∙◌, append_assoc, arith}
 use Rattle.std.proofs.lemmas.List.{append-nil}
 use Rattle.dialogue.specs.Dialogue.{Item, Put, Note, puts, notes, puts-append, notes-append}
@@ -37,8 +37,8 @@ module _ {C : Type 0} (shown noted : C → Option (List ℕ)) (faults : C → �
       }
 
   -- what broke off broke off, whatever was to follow
-  pub BrokeOff-front : (old new : C) (first second : List Item) → BrokeOff shown noted faults room old new first → BrokeOff shown noted faults room old new (first ++ second)
-  BrokeOff-front old new first second b =
+  pub BrokeOff-prefix : (old new : C) (first second : List Item) → BrokeOff shown noted faults room old new first → BrokeOff shown noted faults room old new (first ++ second)
+  BrokeOff-prefix old new first second b =
       record {
         said = b.said;
         failed = b.failed;

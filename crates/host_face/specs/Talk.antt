@@ -23,7 +23,7 @@ WasFull Get room shown noted = IsNone room
 WasFull (Put byte) room shown noted = FillsRoom room shown
 WasFull (Note byte) room shown noted = FillsRoom room noted
 
--- the items in front of one were said and it failed: the count of faults rose
+-- the items before one were said and it failed: the count of faults rose
 pub record BrokeOff {C : Type 0} (shown noted : C → Option (List ℕ)) (faults : C → ℕ) (room : C → Option ℕ) (old new : C) (items : List Item) : Type 0 where
   pub said : List Item
   pub failed : Item

@@ -13,12 +13,12 @@ use Rattle.image_check.specs.declared.refusal.CheckRefusal.{CheckRefusal}
 use Rattle.image_check.specs.Code.{Insns, CodeIs, JumpsToStarts}
 use Rattle.image_check.specs.Ids.{HasIds}
 use Rattle.image_check.specs.Built.{is_built}
-use Rattle.image_check.specs.Visits.{Depth, HasOperands, ReturnsResult, FitsBody, IsRight, moved_by, behind, goes_on}
+use Rattle.image_check.specs.Visits.{Depth, HasOperands, ReturnsResult, FitsBody, IsRight, moved_by, suffix, goes_on}
 use Rattle.image_check.specs.Checked.{IsCheckedMethod, IsChecked, IsBuiltMethod, IsBuilt}
 use Rattle.image_check.specs.Refused.{HasOther, IsReachedWith, FailsDepth, FailsBody, FailsEnd, FailsIn, IsRefused}
 use Rattle.image_check.proofs.Passing.{each-of}
 use Rattle.image_check.proofs.Reaching.{sent_on}
-use Rattle.image_check.proofs.Standing.{one_list, none_stops}
+use Rattle.image_check.proofs.Holding.{one_list, none_stops}
 
 -- a fact of each instruction does not fail at one
 no_other : (code : List ℕ) (pc : ℕ) (P : Insns → ℕ × MInsn → Type 0) (insns : Insns) → CodeIs code insns → AllByRecursion (P insns) insns → HasOther code pc P → ⊥
@@ -43,7 +43,7 @@ module _ (image : Image) (method : Method) (checked : IsCheckedMethod image meth
           | inl result ↦ result (keeps image method pc at.d at.insn at.size (λ i n. ReturnsResult method i) right at.found right.result)
           | inr sends ↦
               let sent = sent_on image method.code pc at.d at.insn at.size sends.to at.sent at.found operands sends.successor in
-              sends.differ (checked.one_depth sends.to sends.other (behind (moved_by image at.insn) at.d) sends.sent sent)
+              sends.differ (checked.one_depth sends.to sends.other (suffix (moved_by image at.insn) at.d) sends.sent sent)
         ]
       ]
 
@@ -52,7 +52,7 @@ module _ (image : Image) (method : Method) (checked : IsCheckedMethod image meth
       let right = checked.right pc at.d at.sent in
       elim at.fails [
         | inl before ↦ before right.fits
-        | inr after ↦ after (keeps image method pc at.d at.insn at.size (λ i n. FitsBody method (behind (moved_by image i) at.d)) right at.found right.fits_behind)
+        | inr after ↦ after (keeps image method pc at.d at.insn at.size (λ i n. FitsBody method (suffix (moved_by image i) at.d)) right at.found right.fits_after)
       ]
 
   no_fall : IsReachedWith image method pc (λ d insn size. FailsEnd method pc insn size) → ⊥

@@ -5,7 +5,7 @@ use Rattle.std.proofs.lemmas.Bool.Decides.{Decides-eqb}
 use Rattle.image_form.specs.declared.record.Image.{Image}
 use Rattle.image_form.specs.declared.record.Method.{Method}
 use Rattle.image_check.specs.declared.depth.Depth.{Depth as Stored}
-use Rattle.image_check.specs.Visits.{Depth, depth, empty, IsSent, IsRight, IsClosed, moved_by, behind, successors}
+use Rattle.image_check.specs.Visits.{Depth, depth, empty, IsSent, IsRight, IsClosed, moved_by, suffix, successors}
 use Rattle.image_check.specs.Table.{Table, Has, stored}
 use Rattle.image_check.specs.Flow.{IsDone, IsFlow}
 use Rattle.image_check.proofs.Depths.{one_depth_at, same_pair}
@@ -44,7 +44,7 @@ module _ (image : Image) (method : Method) (table : Table) (flow : IsFlow image 
   table-closed : IsClosed image method.code (in_table table)
   table-closed pc refs cells insn size holds found operands =
       let has = to_depth (get_or table pc None) refs cells holds in
-      let next = behind (moved_by image insn) (depth refs cells) in
+      let next = suffix (moved_by image insn) (depth refs cells) in
       more-all (λ to. Has table to next) (λ to. in_table table to next.refs next.cells ≡ true) (λ to. from_depth table to next) (successors method.code pc insn size) ((is_done pc (depth refs cells) has).sends insn size found)
 
   all_there : (pc : ℕ) (d : Depth) → IsSent image method.code pc d → Has table pc d

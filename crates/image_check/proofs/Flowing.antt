@@ -10,7 +10,7 @@ use Rattle.image_instr.specs.Reading.{insn_at}
 use Rattle.image_form.specs.declared.record.Image.{Image}
 use Rattle.image_form.specs.declared.record.Method.{Method}
 use Rattle.image_check.specs.declared.depth.Depth.{Depth as Stored}
-use Rattle.image_check.specs.Visits.{Depth, empty, IsSent, IsRight, moved_by, behind, successors}
+use Rattle.image_check.specs.Visits.{Depth, empty, IsSent, IsRight, moved_by, suffix, successors}
 use Rattle.image_check.specs.Table.{Table, Has, stored}
 use Rattle.image_check.specs.Flow.{JumpsWell, StartsAt, IsVisited, IsDone, IsFlow, IsSpreadAll}
 use Rattle.image_check.proofs.Depths.{one_depth_at}
@@ -26,10 +26,10 @@ more-all P Q h (x ∷ xs) all = (h x all.0, more-all P Q h xs all.1)
 module _ (image : Image) (method : Method) (table : Table) (work : List ℕ) (pc : ℕ) (flow : IsFlow image method table (pc ∷ work)) (d : Depth) (has : Has table pc d)
     (insn : MInsn) (size : ℕ) (found : insn_at (drop pc method.code) ≡ Some (insn, size)) (after : Depth) (visited : IsVisited image method pc d insn size after) where
   abbrev next : Depth
-  next = behind (moved_by image insn) d
+  next = suffix (moved_by image insn) d
 
   right : IsRight image method pc d
-  right = record { insn = insn; size = size; found = found; operands = visited.operands; result = visited.result; fits = visited.fits; fits_behind = visited.fits_behind; inside = visited.inside }
+  right = record { insn = insn; size = size; found = found; operands = visited.operands; result = visited.result; fits = visited.fits; fits_after = visited.fits_after; inside = visited.inside }
 
   module _ (later : Table) (pending : List ℕ) (all : IsSpreadAll (successors method.code pc insn size) after table work later pending) where
     visit-done : IsDone image method later pc d
@@ -38,14 +38,14 @@ module _ (image : Image) (method : Method) (table : Table) (work : List ℕ) (pc
       sends = λ insn' size' found'.
           let parts = some_pair_parts insn insn' size size' (sym found ∙ found') in
           let sent = subst (λ (e : Depth). AllByRecursion (λ to. Has later to e) (successors method.code pc insn size)) visited.after_is all.each in
-          subst (λ (i : MInsn). AllByRecursion (λ to. Has later to (behind (moved_by image i) d)) (successors method.code pc i size')) parts.0
+          subst (λ (i : MInsn). AllByRecursion (λ to. Has later to (suffix (moved_by image i) d)) (successors method.code pc i size')) parts.0
           (subst (λ n. AllByRecursion (λ to. Has later to next) (successors method.code pc insn n)) parts.1 sent);
     }
 
     still-done : (at : ℕ) (e : Depth) → IsDone image method table at e → IsDone image method later at e
     still-done at e done = record {
       right = done.right;
-      sends = λ i n f. more-all (λ to. Has table to (behind (moved_by image i) e)) (λ to. Has later to (behind (moved_by image i) e)) (λ to. all.spread.keeps to (behind (moved_by image i) e)) (successors method.code at i n) (done.sends i n f);
+      sends = λ i n f. more-all (λ to. Has table to (suffix (moved_by image i) e)) (λ to. Has later to (suffix (moved_by image i) e)) (λ to. all.spread.keeps to (suffix (moved_by image i) e)) (successors method.code at i n) (done.sends i n f);
     }
 
     new-sent : (at : ℕ) (e : Depth) → Contains (successors method.code pc insn size) at → e ≡ after → IsSent image method.code at e
@@ -82,10 +82,10 @@ module _ (image : Image) (method : Method) (table : Table) (work : List ℕ) (pc
 
 -- ---- the work list
 
--- what is popped stands at the end of the work list
+-- what is popped is at the end of the work list
 pub popped-flow : (image : Image) (method : Method) (table : Table) (all work : List ℕ) (pc : ℕ) → all ≡ work ++ pc ∷ [] → IsFlow image method table all → IsFlow image method table (pc ∷ work)
 popped-flow image method table all work pc e flow =
-    let front : (at : ℕ) → Contains all at → Contains (pc ∷ work) at = λ at has. elim (Contains-push_cases work pc at (subst (λ (l : List ℕ). Contains l at) e has)) [
+    let prefix : (at : ℕ) → Contains all at → Contains (pc ∷ work) at = λ at has. elim (Contains-push_cases work pc at (subst (λ (l : List ℕ). Contains l at) e has)) [
       | inl old ↦ Contains-append_right (pc ∷ []) work at old
       | inr same ↦ subst (Contains (pc ∷ work)) same (0, omega arith, refl)
     ] in
@@ -98,7 +98,7 @@ popped-flow image method table all work pc e flow =
       first = flow.first;
       sent = flow.sent;
       starts = flow.starts;
-      done = λ at d has. elim (flow.done at d has) [ inl wait ↦ inl (front at wait) | inr done ↦ inr done ];
+      done = λ at d has. elim (flow.done at d has) [ inl wait ↦ inl (prefix at wait) | inr done ↦ inr done ];
       reached = λ at wait. flow.reached at (back at wait);
     }
 

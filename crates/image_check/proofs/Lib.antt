@@ -1,5 +1,5 @@
 pub mod Starts
-pub mod Standing
+pub mod Holding
 pub mod Targets
 pub mod Passing
 pub mod Depths

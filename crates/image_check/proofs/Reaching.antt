@@ -1,4 +1,4 @@
--- What a depth that reaches an offset reaches behind its instruction.
+-- What a depth that reaches an offset reaches after its instruction.
 use Rattle.std.proofs.Common.{◌≡◌, ℕ, ◌+◌, ◌<◌, Bool, true, false, cond, List, [], ◌∷◌, length, drop, get_or, Some, IsTrue, refl, sym, ap, subst, ◌∙◌, arith, inl, inr, All}
 use Rattle.std.specs.List.{Contains, AllByRecursion}
 use Rattle.std.proofs.lemmas.List.{drop_all}
@@ -9,10 +9,10 @@ use Rattle.image_instr.specs.declared.insn.MInsn.{MInsn}
 use Rattle.image_instr.specs.Reading.{insn_at, rows_at}
 use Rattle.image_form.specs.declared.record.Image.{Image}
 use Rattle.image_check.specs.Code.{Insns, CodeIs, IsStart, JumpsToStarts, targets, targets_at}
-use Rattle.image_check.specs.Visits.{Depth, IsSent, HasOperands, moved_by, behind, goes_on, successors}
+use Rattle.image_check.specs.Visits.{Depth, IsSent, HasOperands, moved_by, suffix, goes_on, successors}
 use Rattle.image_check.specs.Flow.{JumpsWell, StartsAt}
 use Rattle.image_check.proofs.Passing.{each-of}
-use Rattle.image_check.proofs.Standing.{one_list, start_there, IsThere}
+use Rattle.image_check.proofs.Holding.{one_list, start_there, IsThere}
 
 -- the one element
 pub is_one : {X : Type 0} (x y : X) → Contains (x ∷ []) y → x ≡ y
@@ -21,10 +21,10 @@ is_one x y has = elim (cases_lt has.0 1) [ inl lt ↦ let none : has.0 ≡ 0 = o
 pub is_none : {X : Type 0} (x : X) → Contains [] x → ⊥
 is_none x has = omega (arith, has.1)
 
--- the depth behind an instruction reaches each successor
-pub sent_on : (image : Image) (code : List ℕ) (pc : ℕ) (d : Depth) (insn : MInsn) (size to : ℕ) → IsSent image code pc d → insn_at (drop pc code) ≡ Some (insn, size) → HasOperands (moved_by image insn) d → Contains (successors code pc insn size) to → IsSent image code to (behind (moved_by image insn) d)
+-- the depth after an instruction reaches each successor
+pub sent_on : (image : Image) (code : List ℕ) (pc : ℕ) (d : Depth) (insn : MInsn) (size to : ℕ) → IsSent image code pc d → insn_at (drop pc code) ≡ Some (insn, size) → HasOperands (moved_by image insn) d → Contains (successors code pc insn size) to → IsSent image code to (suffix (moved_by image insn) d)
 sent_on image code pc d insn size to sent found operands place = λ holds first closed.
-    each-of (λ to. holds to (behind (moved_by image insn) d).refs (behind (moved_by image insn) d).cells ≡ true) (successors code pc insn size) to
+    each-of (λ to. holds to (suffix (moved_by image insn) d).refs (suffix (moved_by image insn) d).cells ≡ true) (successors code pc insn size) to
     (closed pc d.refs d.cells insn size (sent holds first closed) found operands) place
 
 -- a start is in the code
@@ -36,7 +36,7 @@ start_within code pc starts =
       | inr le ↦ absurd (none-some (there.insn, there.size) (ap insn_at (sym (drop_all pc code le)) ∙ there.found))
     ]
 
--- an instruction stands at a start
+-- an instruction is at a start
 pub start_found : (code : List ℕ) (pc : ℕ) → StartsAt code pc → (insn : MInsn) × (size : ℕ) × (insn_at (drop pc code) ≡ Some (insn, size))
 start_found code pc starts =
     let there = start_there code starts.insns starts.is_code pc starts.start in

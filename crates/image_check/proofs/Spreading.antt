@@ -16,8 +16,8 @@ has_within table pc d has =
     elim (cases_lt pc (length table)) [ inl lt ↦ lt | inr le ↦ absurd (none-some (stored d) (sym (get_or_past table pc None le) ∙ has)) ]
 
 -- nothing is entered
-pub spread-none : (places : List ℕ) (d : Depth) (table : Table) (work : List ℕ) → IsSpread places d table work table work
-spread-none places d table work = record { size = refl; keeps = λ pc e has. has; only = λ pc e has. inl has; pending = λ pc has. has; entered = λ pc has. inl has; count = refl }
+pub spread-none : (targets : List ℕ) (d : Depth) (table : Table) (work : List ℕ) → IsSpread targets d table work table work
+spread-none targets d table work = record { size = refl; keeps = λ pc e has. has; only = λ pc e has. inl has; pending = λ pc has. has; entered = λ pc has. inl has; count = refl }
 
 -- ---- an offset without a depth gets one
 
@@ -44,14 +44,14 @@ module _ (table : Table) (work : List ℕ) (to : ℕ) (d : Depth) (lt : to < len
 
 -- ---- one more successor
 
-module _ (places : List ℕ) (d : Depth) (table : Table) (work : List ℕ) (now : Table) (pending : List ℕ) (s : IsSpread places d table work now pending) (to : ℕ) (place : Contains places to) where
-  spread-new : to < length now → get_or now to None ≡ None → IsSpread places d table work (set now to (Some (stored d))) (pending ++ to ∷ [])
+module _ (targets : List ℕ) (d : Depth) (table : Table) (work : List ℕ) (now : Table) (pending : List ℕ) (s : IsSpread targets d table work now pending) (to : ℕ) (place : Contains targets to) where
+  spread-new : to < length now → get_or now to None ≡ None → IsSpread targets d table work (set now to (Some (stored d))) (pending ++ to ∷ [])
   spread-new lt none = record {
     size = length-set now to (Some (stored d)) ∙ s.size;
     keeps = λ pc e has. new-keeps now pending to d lt none pc e (s.keeps pc e has);
     only = λ pc e has. elim (new-only now pending to d lt none pc e has) [
       | inl old ↦ elim (s.only pc e old) [ inl first ↦ inl first | inr new ↦ inr (new.0, Contains-append_left pending (to ∷ []) pc new.1, new.2) ]
-      | inr new ↦ inr (subst (Contains places) (sym new.0) place, subst (Contains (pending ++ to ∷ [])) (sym new.0) (Contains-push pending to), new.1)
+      | inr new ↦ inr (subst (Contains targets) (sym new.0) place, subst (Contains (pending ++ to ∷ [])) (sym new.0) (Contains-push pending to), new.1)
     ];
     pending = λ pc has. Contains-append_left pending (to ∷ []) pc (s.pending pc has);
     entered = λ pc has. elim (Contains-push_cases pending to pc has) [
@@ -61,11 +61,11 @@ module _ (places : List ℕ) (d : Depth) (table : Table) (work : List ℕ) (now 
     count = omega (arith, unset-set now to (stored d) lt none, length-append pending (to ∷ []), s.count);
   }
 
-  pub spread-more : (later : Table) (after : List ℕ) → to < length now → IsEntered now pending to d later after → IsSpread places d table work later after
-  spread-more later after lt (inl old) = subst (λ (t : Table). IsSpread places d table work t after) (sym old.1) (subst (IsSpread places d table work now) (sym old.2) s)
+  pub spread-more : (later : Table) (after : List ℕ) → to < length now → IsEntered now pending to d later after → IsSpread targets d table work later after
+  spread-more later after lt (inl old) = subst (λ (t : Table). IsSpread targets d table work t after) (sym old.1) (subst (IsSpread targets d table work now) (sym old.2) s)
   spread-more later after lt (inr new) =
-      subst (λ (t : Table). IsSpread places d table work t after) (sym new.1)
-      (subst (IsSpread places d table work (set now to (Some (stored d)))) (sym new.2) (spread-new lt new.0))
+      subst (λ (t : Table). IsSpread targets d table work t after) (sym new.1)
+      (subst (IsSpread targets d table work (set now to (Some (stored d)))) (sym new.2) (spread-new lt new.0))
 
 -- what is entered is there, and what was there stays
 pub entered-has : (now : Table) (pending : List ℕ) (to : ℕ) (d : Depth) (later : Table) (after : List ℕ) → to < length now → IsEntered now pending to d later after → Has later to d
@@ -77,9 +77,9 @@ entered-keeps now pending to d later after lt (inl old) pc e has = subst (λ (t 
 entered-keeps now pending to d later after lt (inr new) pc e has = subst (λ (t : Table). Has t pc e) (sym new.1) (new-keeps now pending to d lt new.0 pc e has)
 
 -- another depth at a place was there from the first
-pub other-first : (places : List ℕ) (d : Depth) (table : Table) (work : List ℕ) (now : Table) (pending : List ℕ) → IsSpread places d table work now pending → (to : ℕ) → HasOther now to d → HasOther table to d
-other-first places d table work now pending s to other =
+pub other-first : (targets : List ℕ) (d : Depth) (table : Table) (work : List ℕ) (now : Table) (pending : List ℕ) → IsSpread targets d table work now pending → (to : ℕ) → HasOther now to d → HasOther table to d
+other-first targets d table work now pending s to other =
     elim (s.only to other.0 other.1) [ inl first ↦ (other.0, first, other.2) | inr new ↦ absurd (other.2 new.2) ]
 
-pub each-place : (places : List ℕ) (P : ℕ → Type 0) → ((k : ℕ) → k < length places → P (get_or places k 0)) → AllByRecursion P places
-each-place places P h = recursion_from_All P places (All-from_get_or P places 0 h)
+pub each-place : (targets : List ℕ) (P : ℕ → Type 0) → ((k : ℕ) → k < length targets → P (get_or targets k 0)) → AllByRecursion P targets
+each-place targets P h = recursion_from_All P targets (All-from_get_or P targets 0 h)

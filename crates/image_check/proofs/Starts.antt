@@ -25,7 +25,7 @@ pub rises-within : (low : ℕ) (insns : Insns) (high : ℕ) → RiseWithin low i
 rises-within low [] high rise = rise
 rises-within low ((pc, insn) ∷ insns) high rise = omega (arith, rise.0, rises-within (suc pc) insns high rise.1)
 
--- one more instruction behind the others
+-- one more instruction after the others
 pub rises-push : (low : ℕ) (insns : Insns) (pc : ℕ) (insn : MInsn) (high : ℕ) → RiseWithin low insns pc → pc < high → RiseWithin low (insns ++ (pc, insn) ∷ []) high
 rises-push low [] pc insn high rise lt = (rise, omega arith)
 rises-push low ((at, x) ∷ insns) pc insn high rise lt = (rise.0, rises-push (suc at) insns pc insn high rise.1 lt)
@@ -100,11 +100,11 @@ both : (a b : Bool) → (a && b) ≡ true → (a ≡ true) × (b ≡ true)
 both true b e = (refl, e)
 both false b e = absurd (false≢true e)
 
-pub all-found : (insns : Insns) (places : List ℕ) → list_all (is_start insns) places ≡ true → AllByRecursion (IsStart insns) places
+pub all-found : (insns : Insns) (targets : List ℕ) → list_all (is_start insns) targets ≡ true → AllByRecursion (IsStart insns) targets
 all-found insns [] e = tt
-all-found insns (pc ∷ places) e = let parts = both (is_start insns pc) (list_all (is_start insns) places) e in (start-found insns pc parts.0, all-found insns places parts.1)
+all-found insns (pc ∷ targets) e = let parts = both (is_start insns pc) (list_all (is_start insns) targets) e in (start-found insns pc parts.0, all-found insns targets parts.1)
 
-pub all-passes : (insns : Insns) (places : List ℕ) → AllByRecursion (IsStart insns) places → list_all (is_start insns) places ≡ true
+pub all-passes : (insns : Insns) (targets : List ℕ) → AllByRecursion (IsStart insns) targets → list_all (is_start insns) targets ≡ true
 all-passes insns [] all = refl
-all-passes insns (pc ∷ places) all =
-    ap (λ b. b && list_all (is_start insns) places) (start-passes insns pc all.0.0 all.0.1 all.0.2) ∙ all-passes insns places all.1
+all-passes insns (pc ∷ targets) all =
+    ap (λ b. b && list_all (is_start insns) targets) (start-passes insns pc all.0.0 all.0.1 all.0.2) ∙ all-passes insns targets all.1

@@ -7,13 +7,13 @@ use Rattle.image_instr.specs.declared.insn.Width.{Width}
 use Rattle.image_instr.specs.declared.insn.SwitchRow.{SwitchRow}
 use Rattle.image_instr.specs.declared.insn.MInsn.{MInsn}
 use Rattle.image_instr.specs.declared.insn.MInsn.TheVariants.{Const1, Const2, Small1, Small2, Mid2, Null, Load, Store, RClear, Inc, RDupX, DupX, RPop, Pop, RSwap, Swap, Drop, Bin, Neg, Sx, Zx, Sb, Bit, Jz, JCmp, RJ, Goto, Switch, Table, Ret, GetS, PutS, GetF, PutF, NewArr, Multi, ALen, ALoad, AStore, New, Cast, Inst, Throw, CallS, CallX, CallV, CallI}
-use Rattle.image_instr.specs.Insn.{insn_bytes, IsAtFront}
+use Rattle.image_instr.specs.Insn.{insn_bytes, IsAtPrefix}
 use Rattle.image_instr.specs.Reading.{Found, insn_at, rows_at, rows_in, targets_in}
 use Rattle.image_instr.proofs.Bytes.{IsBytes, IsBytes-drop}
 use Rattle.image_instr.proofs.Rows.{size_of_rows, size_of_targets}
-use Rattle.image_instr.proofs.Decode.{found_stands, front_parts}
+use Rattle.image_instr.proofs.Decode.{found_holds, prefix_parts}
 use Rattle.image_check.specs.Code.{targets}
-use Rattle.image_check.specs.Targets.{target_count, successor_count, StandsAt}
+use Rattle.image_check.specs.Targets.{target_count, successor_count, HoldsAt}
 use Rattle.image_check.specs.Visits.{goes_on, successors}
 
 abbrev targets_of : List SwitchRow → List ℕ
@@ -66,7 +66,7 @@ targets_target low (suc count) bytes (suc i) lt =
     let far : 2 + 2 * i ≡ 2 * suc i = omega arith in
     targets_target (low +ℤ pos 1) count (drop 2 bytes) i (omega arith) ∙ ap (big_number 2) (drop-drop (2 * i) 2 bytes ∙ ap (λ n. drop n bytes) far)
 
--- a target behind the default, in the code
+-- a target after the default, in the code
 pub switch_row : (code : List ℕ) (pc default count index : ℕ) → 0 < index → index < count + 1 → big_number 2 (drop (pc + 9 + 6 * (index - 1)) code) ≡ get_or (default ∷ targets_of (rows_in count (drop 5 (drop pc code)))) index 0
 switch_row code pc default count zero some lt = absurd (omega arith)
 switch_row code pc default count (suc index) some lt =
@@ -80,9 +80,9 @@ table_row code pc default low count (suc index) some lt =
 
 -- ---- the bytes are there
 
-at_front : (bytes : List ℕ) (insn : MInsn) (size : ℕ) → IsBytes bytes → insn_at bytes ≡ Some (insn, size) → IsAtFront insn (rows_at insn bytes) size bytes
-at_front bytes insn size fits e =
-    subst (λ (found : Found). IfSome found (λ f. IsAtFront f.0 (rows_at f.0 bytes) f.1 bytes)) e (found_stands bytes fits)
+at_prefix : (bytes : List ℕ) (insn : MInsn) (size : ℕ) → IsBytes bytes → insn_at bytes ≡ Some (insn, size) → IsAtPrefix insn (rows_at insn bytes) size bytes
+at_prefix bytes insn size fits e =
+    subst (λ (found : Found). IfSome found (λ f. IsAtPrefix f.0 (rows_at f.0 bytes) f.1 bytes)) e (found_holds bytes fits)
 
 -- an instruction has a byte at least, and no more than are there
 some_bytes : (insn : MInsn) (rows : List SwitchRow) → 1 ≤ length (insn_bytes insn rows)
@@ -137,23 +137,23 @@ some_bytes (CallI n i) rows = omega arith
 pub size_fits : (code : List ℕ) (pc : ℕ) (insn : MInsn) (size : ℕ) → IsBytes code → insn_at (drop pc code) ≡ Some (insn, size) → (1 ≤ size) × (pc + size ≤ length code)
 size_fits code pc insn size fits e =
     let bytes = drop pc code in
-    let at = at_front bytes insn size (IsBytes-drop pc code fits) e in
-    let parts : length bytes ≡ length (insn_bytes insn (rows_at insn bytes)) + length (drop size bytes) = ap length (front_parts bytes insn (rows_at insn bytes) size at) ∙ length-append (insn_bytes insn (rows_at insn bytes)) (drop size bytes) in
+    let at = at_prefix bytes insn size (IsBytes-drop pc code fits) e in
+    let parts : length bytes ≡ length (insn_bytes insn (rows_at insn bytes)) + length (drop size bytes) = ap length (prefix_parts bytes insn (rows_at insn bytes) size at) ∙ length-append (insn_bytes insn (rows_at insn bytes)) (drop size bytes) in
     let some = some_bytes insn (rows_at insn bytes) in
     (omega (arith, at.size_is), omega (arith, at.size_is, parts, length-drop pc code))
 
-pub switch_bytes : (code : List ℕ) (pc : ℕ) (width : Width) (default count : ℕ) → IsBytes code → StandsAt code pc (Switch width default count) → pc + 5 + 6 * count ≤ length code
+pub switch_bytes : (code : List ℕ) (pc : ℕ) (width : Width) (default count : ℕ) → IsBytes code → HoldsAt code pc (Switch width default count) → pc + 5 + 6 * count ≤ length code
 switch_bytes code pc width default count fits stands =
     let bytes = drop pc code in
     let insn = Switch width default count in
-    let at = at_front bytes insn stands.0 (IsBytes-drop pc code fits) stands.1 in
+    let at = at_prefix bytes insn stands.0 (IsBytes-drop pc code fits) stands.1 in
     let within = size_fits code pc insn stands.0 fits stands.1 in
     omega (arith, at.size_is, within.1, size_of_rows (rows_at insn bytes), at.is_insn.rows_of.0)
 
-pub table_bytes : (code : List ℕ) (pc : ℕ) (width : Width) (default : ℕ) (low : ℤ) (count : ℕ) → IsBytes code → StandsAt code pc (Table width default low count) → pc + 9 + 2 * count ≤ length code
+pub table_bytes : (code : List ℕ) (pc : ℕ) (width : Width) (default : ℕ) (low : ℤ) (count : ℕ) → IsBytes code → HoldsAt code pc (Table width default low count) → pc + 9 + 2 * count ≤ length code
 table_bytes code pc width default low count fits stands =
     let bytes = drop pc code in
     let insn = Table width default low count in
-    let at = at_front bytes insn stands.0 (IsBytes-drop pc code fits) stands.1 in
+    let at = at_prefix bytes insn stands.0 (IsBytes-drop pc code fits) stands.1 in
     let within = size_fits code pc insn stands.0 fits stands.1 in
     omega (arith, at.size_is, within.1, size_of_targets (rows_at insn bytes), at.is_insn.rows_of.0)

@@ -1,4 +1,4 @@
--- The code of a method as its instructions, one behind the other, each with its offset in bytes from the
+-- The code of a method as its instructions, one after the other, each with its offset in bytes from the
 -- code's start.
 use Rattle.std.specs.Prelude.{◌≡◌, ℕ, ◌+◌, List, [], ◌∷◌, map, drop, Some}
 use Rattle.std.specs.List.{Contains, AllByRecursion}
@@ -11,18 +11,18 @@ use Rattle.image_instr.specs.Reading.{insn_at, rows_at}
 abbrev pub Insns : Type 0
 Insns = List (ℕ × MInsn)
 
--- The instructions stand one behind the other in the bytes, which begin at pc. Behind them the bytes
+-- The instructions stand one after the other in the bytes, which begin at pc. Behind them the bytes
 -- `left` begin, at `next`.
-abbrev pub StandIn : ℕ → List ℕ → Insns → ℕ → List ℕ → Type 0
-StandIn pc bytes [] next left = (next ≡ pc) × (left ≡ bytes)
-StandIn pc bytes ((at, insn) ∷ insns) next left =
-    (at ≡ pc) × (size : ℕ) × (insn_at bytes ≡ Some (insn, size)) × StandIn (pc + size) (drop size bytes) insns next left
+abbrev pub AreIn : ℕ → List ℕ → Insns → ℕ → List ℕ → Type 0
+AreIn pc bytes [] next left = (next ≡ pc) × (left ≡ bytes)
+AreIn pc bytes ((at, insn) ∷ insns) next left =
+    (at ≡ pc) × (size : ℕ) × (insn_at bytes ≡ Some (insn, size)) × AreIn (pc + size) (drop size bytes) insns next left
 
 -- the code is these instructions
 abbrev pub CodeIs : List ℕ → Insns → Type 0
-CodeIs code insns = (end : ℕ) × StandIn 0 code insns end []
+CodeIs code insns = (end : ℕ) × AreIn 0 code insns end []
 
--- an instruction stands at the offset
+-- an instruction is at the offset
 abbrev pub IsStart : Insns → ℕ → Type 0
 IsStart insns pc = Contains (map (λ x. x.0) insns) pc
 

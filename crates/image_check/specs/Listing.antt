@@ -12,6 +12,6 @@ RiseWithin low ((pc, insn) ∷ insns) high = (low ≤ pc) × RiseWithin (suc pc)
 abbrev pub Rises : Insns → Type 0
 Rises insns = (high : ℕ) × RiseWithin 0 insns high
 
--- whether an instruction stands at the offset
+-- whether an instruction is at the offset
 abbrev pub is_start : Insns → ℕ → Bool
 is_start insns pc = list_any (λ x. x.0 == pc) insns

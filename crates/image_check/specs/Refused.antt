@@ -9,18 +9,18 @@ use Rattle.image_form.specs.declared.record.Method.{Method}
 use Rattle.image_check.specs.declared.refusal.CheckCause.{CheckCause}
 use Rattle.image_check.specs.declared.refusal.CheckCause.TheVariants.{BadCode, BadTarget, BadId, BadDepth, Crosses, Falls, Unbuilt, Memory}
 use Rattle.image_check.specs.declared.refusal.CheckRefusal.{CheckRefusal}
-use Rattle.image_check.specs.Code.{Insns, StandIn, CodeIs, JumpsToStarts}
+use Rattle.image_check.specs.Code.{Insns, AreIn, CodeIs, JumpsToStarts}
 use Rattle.image_check.specs.Ids.{HasIds}
 use Rattle.image_check.specs.Built.{is_built}
 use Rattle.image_check.specs.Checked.{IsChecked}
 use Rattle.image_check.specs.BuiltForm.{has_built_form}
-use Rattle.image_check.specs.Visits.{Depth, IsSent, HasOperands, ReturnsResult, FitsBody, moved_by, behind, goes_on, successors}
+use Rattle.image_check.specs.Visits.{Depth, IsSent, HasOperands, ReturnsResult, FitsBody, moved_by, suffix, goes_on, successors}
 
 -- instructions stand up to the offset, and none stands there, though bytes do
 pub record StopsAt (code : List ℕ) (pc : ℕ) : Type 0 where
   pub insns : Insns
   pub left : List ℕ
-  pub stand : StandIn 0 code insns pc left
+  pub stand : AreIn 0 code insns pc left
   pub there : 0 < length left
   pub none : insn_at left ≡ None
 
@@ -48,16 +48,16 @@ pub record SendsOther (image : Image) (method : Method) (pc : ℕ) (d : Depth) (
   pub successor : Contains (successors method.code pc insn size) to
   pub operands : HasOperands (moved_by image insn) d
   pub sent : IsSent image method.code to other
-  pub differ : other ≢ behind (moved_by image insn) d
+  pub differ : other ≢ suffix (moved_by image insn) d
 
 -- operands are missing, the return is not the method's result, or a successor has another depth
 abbrev pub FailsDepth : Image → Method → ℕ → Depth → MInsn → ℕ → Type 0
 FailsDepth image method pc d insn size =
     (¬ HasOperands (moved_by image insn) d) ⊎ ((¬ ReturnsResult method insn) ⊎ SendsOther image method pc d insn size)
 
--- locals and operands exceed the body before or behind the instruction
+-- locals and operands exceed the body before or after the instruction
 abbrev pub FailsBody : Image → Method → Depth → MInsn → ℕ → Type 0
-FailsBody image method d insn size = (¬ FitsBody method d) ⊎ (¬ FitsBody method (behind (moved_by image insn) d))
+FailsBody image method d insn size = (¬ FitsBody method d) ⊎ (¬ FitsBody method (suffix (moved_by image insn) d))
 
 -- control passes the code's end
 abbrev pub FailsEnd : Method → ℕ → MInsn → ℕ → Type 0
@@ -87,7 +87,7 @@ pub record FailsThere (image : Image) (refusal : CheckRefusal) : Type 0 where
   pub own : 32 ≤ refusal.method
   pub fails : FailsIn image method refusal.cause refusal.pc
 
--- the machine does not run the instruction that stands at the offset
+-- the machine does not run the instruction that is at the offset
 abbrev pub IsUnbuiltAt : Method → ℕ → Type 0
 IsUnbuiltAt method pc = HasOther method.code pc (λ insns x. is_built x.1 ≡ true)
 

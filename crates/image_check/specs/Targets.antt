@@ -15,9 +15,9 @@ target_count (Switch width default count) = count + 1
 target_count (Table width default low count) = count + 1
 target_count _ = 0
 
--- the instruction stands at the offset
-abbrev pub StandsAt : List ℕ → ℕ → MInsn → Type 0
-StandsAt code pc insn = (size : ℕ) × (insn_at (drop pc code) ≡ Some (insn, size))
+-- the instruction is at the offset
+abbrev pub HoldsAt : List ℕ → ℕ → MInsn → Type 0
+HoldsAt code pc insn = (size : ℕ) × (insn_at (drop pc code) ≡ Some (insn, size))
 
 -- how many successors an instruction has
 abbrev pub successor_count : MInsn → ℕ

@@ -30,9 +30,9 @@ empty = depth 0 0
 abbrev pub moved_by : Image → MInsn → Effect
 moved_by image insn = effect_of insn (called_by image insn)
 
--- the depth behind an instruction
-abbrev pub behind : Effect → Depth → Depth
-behind effect d = depth (d.refs - effect.ref_pop + effect.ref_push) (d.cells - effect.cell_pop + effect.cell_push)
+-- the depth after an instruction
+abbrev pub suffix : Effect → Depth → Depth
+suffix effect d = depth (d.refs - effect.ref_pop + effect.ref_push) (d.cells - effect.cell_pop + effect.cell_push)
 
 -- the operands that an instruction takes are there
 pub record HasOperands (effect : Effect) (d : Depth) : Type 0 where
@@ -55,7 +55,7 @@ abbrev pub ReturnsResult : Method → MInsn → Type 0
 ReturnsResult method (Ret result) = result_code result ≡ method.sig.result
 ReturnsResult method _ = Unit {0}
 
--- the instruction goes on behind itself
+-- the instruction goes on after itself
 abbrev pub goes_on : MInsn → Bool
 goes_on (Goto target) = false
 goes_on (Switch width default count) = false
@@ -69,19 +69,19 @@ abbrev pub successors : List ℕ → ℕ → MInsn → ℕ → List ℕ
 successors code pc insn size = (if goes_on insn then (pc + size) ∷ [] else []) ++ targets insn (rows_at insn (drop pc code))
 
 -- Sets of offsets with depths, as tests of an offset, references and cells. Such a set is closed where
--- each instruction that has its operands sends the depth behind it to each of its successors.
+-- each instruction that has its operands sends the depth after it to each of its successors.
 abbrev pub IsClosed : Image → List ℕ → (ℕ → ℕ → ℕ → Bool) → Type 0
 IsClosed image code holds =
     (pc refs cells : ℕ) (insn : MInsn) (size : ℕ) → holds pc refs cells ≡ true → insn_at (drop pc code) ≡ Some (insn, size)
     → HasOperands (moved_by image insn) (depth refs cells)
-    → AllByRecursion (λ to. holds to (behind (moved_by image insn) (depth refs cells)).refs (behind (moved_by image insn) (depth refs cells)).cells ≡ true) (successors code pc insn size)
+    → AllByRecursion (λ to. holds to (suffix (moved_by image insn) (depth refs cells)).refs (suffix (moved_by image insn) (depth refs cells)).cells ≡ true) (successors code pc insn size)
 
 -- the depth reaches the offset: it is in each closed set that has offset 0 without operands
 abbrev pub IsSent : Image → List ℕ → ℕ → Depth → Type 0
 IsSent image code pc d = (holds : ℕ → ℕ → ℕ → Bool) → holds 0 0 0 ≡ true → IsClosed image code holds → holds pc d.refs d.cells ≡ true
 
 -- the rule of the instruction at an offset that a depth reaches: its operands are there, a return gives
--- the method's result, locals and operands fit the body before and behind it, and control does not pass
+-- the method's result, locals and operands fit the body before and after it, and control does not pass
 -- the code's end
 pub record IsRight (image : Image) (method : Method) (pc : ℕ) (d : Depth) : Type 0 where
   pub insn : MInsn
@@ -90,5 +90,5 @@ pub record IsRight (image : Image) (method : Method) (pc : ℕ) (d : Depth) : Ty
   pub operands : HasOperands (moved_by image insn) d
   pub result : ReturnsResult method insn
   pub fits : FitsBody method d
-  pub fits_behind : FitsBody method (behind (moved_by image insn) d)
+  pub fits_after : FitsBody method (suffix (moved_by image insn) d)
   pub inside : IsTrue (goes_on insn) → pc + size < length method.code

@@ -15,7 +15,7 @@ use image_form::{Image, Method};
 use image_instr::decode_at;
 use std::alloc::Global;
 
-/// Visits the instruction at an offset that a depth reached, and sends the depth behind it on.
+/// Visits the instruction at an offset that a depth reached, and sends the depth after it on.
 fn step(image: &Image, method: &Method, flow: &mut Flow, pc: u16) -> Result<(), Fault>
     requires well { JumpsWell method.now.code }
     requires small { length method.now.code ≤ 65535 }

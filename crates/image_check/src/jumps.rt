@@ -6,7 +6,7 @@ ghost use Rattle.byteorder.specs.Endian.{big_number};
 ghost use Rattle.image_form.specs.declared.record.Image.{Image};
 ghost use Rattle.image_check.specs.Code.{CodeIs, JumpsToStarts, targets_at};
 ghost use Rattle.image_check.specs.Listing.{Rises, is_start as is_start_of};
-ghost use Rattle.image_check.specs.Targets.{target_count as target_count_of, StandsAt};
+ghost use Rattle.image_check.specs.Targets.{target_count as target_count_of, HoldsAt};
 ghost use Rattle.image_check.specs.Refused.{IsFault};
 
 use crate::listing::is_start;
@@ -35,10 +35,10 @@ fn target_in(code: &[u8], place: usize) -> u16
     BigEndian::read_u16(&code[place..])
 }
 
-/// A target of the instruction that stands at the offset. The default of a switch comes first, and then
+/// A target of the instruction that is at the offset. The default of a switch comes first, and then
 /// the targets of its rows.
 pub(crate) fn target(code: &[u8], pc: u16, insn: MInsn, index: usize) -> u16
-    requires stands { StandsAt code.now pc insn }
+    requires stands { HoldsAt code.now pc insn }
     requires index { index < target_count_of insn }
     ensures { result ≡ slice_index (targets_at code.now (pc, insn)) index }
 {
@@ -66,10 +66,10 @@ pub(crate) fn target(code: &[u8], pc: u16, insn: MInsn, index: usize) -> u16
     }
 }
 
-/// Whether each target of the instruction that stands at the offset is a start.
+/// Whether each target of the instruction that is at the offset is a start.
 fn jumps_to_starts(code: &[u8], insns: &[(u16, MInsn)], pc: u16, insn: MInsn) -> bool
     requires rises { Rises insns.now }
-    requires stands { StandsAt code.now pc insn }
+    requires stands { HoldsAt code.now pc insn }
     ensures { result ≡ list_all (is_start_of insns.now) (targets_at code.now (pc, insn)) }
 {
     for index in 0..target_count(insn) {

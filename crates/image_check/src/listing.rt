@@ -11,7 +11,7 @@ use image_form::Method;
 use image_instr::{MInsn, decode_at};
 use std::alloc::Global;
 
-/// The instructions of a method, one behind the other from offset 0.
+/// The instructions of a method, one after the other from offset 0.
 pub(crate) fn list_insns(alloc: Global, method: &Method) -> Result<Vec<(u16, MInsn)>, Fault>
     requires { length method.now.code ≤ 65535 }
     ensures code { IfOk result (λ insns. CodeIs method.now.code insns.items) }
@@ -38,7 +38,7 @@ pub(crate) fn list_insns(alloc: Global, method: &Method) -> Result<Vec<(u16, MIn
     Ok(insns)
 }
 
-/// Whether an instruction stands at the offset.
+/// Whether an instruction is at the offset.
 pub(crate) fn is_start(insns: &[(u16, MInsn)], pc: u16) -> bool
     requires { Rises insns.now }
     ensures { result ≡ is_start_of insns.now pc }

@@ -8,7 +8,7 @@ use std::alloc::{AllocError, AllocFailed};
 /// Which rule fails.
 #[derive(Clone, Copy, Debug, PartialEq, Eq)]
 pub enum CheckCause {
-    /// No instruction stands at the place.
+    /// No instruction is at the place.
     BadCode,
     /// The instruction jumps to a place that is no start of an instruction.
     BadTarget,

@@ -1,8 +1,8 @@
-//! The depth behind an instruction is sent to each of its successors.
+//! The depth after an instruction is sent to each of its successors.
 
 ghost use Rattle.std.specs.Prelude.{◌≡◌, ◌≤◌, ◌<◌, ◌+◌, length, drop, slice_index, All, IsTrue, IfOk, IfErr, MatchBool};
 ghost use Rattle.image_check.specs.Visits.{goes_on as goes_on_of, successors};
-ghost use Rattle.image_check.specs.Targets.{target_count as target_count_of, successor_count as successor_count_of, StandsAt};
+ghost use Rattle.image_check.specs.Targets.{target_count as target_count_of, successor_count as successor_count_of, HoldsAt};
 ghost use Rattle.image_check.specs.Table.{as_depth, Has};
 ghost use Rattle.image_check.specs.declared.refusal.CheckCause.TheVariants.{Memory};
 ghost use Rattle.image_check.specs.Flow.{IsEntered, HasOther, IsSpread, IsSpreadAll, HasOtherAmong};
@@ -39,10 +39,10 @@ fn successor_count(insn: MInsn) -> usize
     if goes_on(insn) { count + 1 } else { count }
 }
 
-/// A successor of the instruction of this size that stands at the offset. What stands behind it comes
+/// A successor of the instruction of this size that is at the offset. What follows it comes
 /// first, where it goes on.
 fn successor(code: &[u8], pc: u16, insn: MInsn, size: usize, index: usize) -> u16
-    requires stands { StandsAt code.now pc insn }
+    requires stands { HoldsAt code.now pc insn }
     requires index { index < successor_count_of insn }
     requires fits { IsTrue (goes_on_of insn) → pc + size ≤ 65535 }
     ensures { result ≡ slice_index (successors code.now pc insn size) index }
@@ -56,7 +56,7 @@ fn successor(code: &[u8], pc: u16, insn: MInsn, size: usize, index: usize) -> u1
     target(code, pc, insn, index - 1)
 }
 
-/// Sends a depth to each successor of the instruction of this size that stands at the offset: false
+/// Sends a depth to each successor of the instruction of this size that is at the offset: false
 /// where another depth reached one of them.
 pub(crate) fn send_all(
     code: &[u8],
@@ -66,13 +66,13 @@ pub(crate) fn send_all(
     size: usize,
     d: Depth,
 ) -> Result<bool, Fault>
-    requires stands { StandsAt code.now pc insn }
+    requires stands { HoldsAt code.now pc insn }
     requires within { All (λ to. to < length flow.old.depths.items) (successors code.now pc insn size) }
     requires fits { length flow.old.depths.items ≤ 65535 }
-    ensures sent { let places = successors code.now pc insn size in
+    ensures sent { let targets = successors code.now pc insn size in
         IfOk result (λ same. MatchBool same
-        (IsSpreadAll places (as_depth d) flow.old.depths.items flow.old.work.items flow.new.depths.items flow.new.work.items)
-        (HasOtherAmong places (as_depth d) flow.old.depths.items)) }
+        (IsSpreadAll targets (as_depth d) flow.old.depths.items flow.old.work.items flow.new.depths.items flow.new.work.items)
+        (HasOtherAmong targets (as_depth d) flow.old.depths.items)) }
     ensures memory { IfErr result (λ fault. fault.cause ≡ Memory) }
 {
     for index in 0..successor_count(insn) {

@@ -58,7 +58,7 @@ fn tests_code_by_the_rules(rt: HostRuntime) -> Result<(), Fail> {
         // CALLS read, POP 2, RET; SMALL2, CALLS print, RET
         (0, 2, &[0xb4, 0, 2, 0x13, 2, 0x79], "Ok"),
         (0, 2, &[0x04, 1, 0xb4, 0, 3, 0x79], "Ok"),
-        // no instruction, at once and behind one
+        // no instruction, at once and after one
         (0, 0, &[0xff], "BadCode 32 0"),
         (0, 0, &[0x79, 0xff], "BadCode 32 1"),
         (0, 2, &[0x79, 0x04], "BadCode 32 1"),
@@ -186,7 +186,7 @@ fn tests_all_rules_before_what_is_built(rt: HostRuntime) -> Result<(), Fail> {
         &rt,
         rt.alloc(),
         &[
-            // NULL without room, and a POP of no cell behind it
+            // NULL without room, and a POP of no cell after it
             (0, 0, &[0x06, 0x79], "Crosses 32 0"),
             (0, 1, &[0x06, 0x13, 1, 0x79], "BadDepth 32 1"),
             // NULL, and then the end of the code

@@ -2,7 +2,7 @@
 
 ghost use Rattle.std.specs.Prelude.{◌≡◌, ◌≤◌, ◌+◌, length, drop, Some, IfOk, IfErr, MatchBool, MatchOption};
 ghost use Rattle.image_instr.specs.Reading.{insn_at};
-ghost use Rattle.image_check.specs.Visits.{behind as behind_of, HasOperands, FitsBody, ReturnsResult, goes_on as goes_on_of, result_code as result_code_of, moved_by, IsSent};
+ghost use Rattle.image_check.specs.Visits.{suffix as after_of, HasOperands, FitsBody, ReturnsResult, goes_on as goes_on_of, result_code as result_code_of, moved_by, IsSent};
 ghost use Rattle.image_check.specs.Table.{as_depth};
 ghost use Rattle.image_check.specs.Flow.{IsVisited};
 ghost use Rattle.image_check.specs.Refused.{FailsIn};
@@ -65,11 +65,11 @@ fn fits_body(method: &Method, d: Depth) -> bool
     locals + (u64::from(d.refs) + u64::from(d.cells)) <= body
 }
 
-/// The depth behind an instruction, where locals and operands fit the body of the frame there.
-fn behind(method: &Method, effect: Effect, d: Depth) -> Option<Depth>
+/// The depth after an instruction, where locals and operands fit the body of the frame there.
+fn suffix(method: &Method, effect: Effect, d: Depth) -> Option<Depth>
     requires { HasOperands effect (as_depth d) }
-    ensures { MatchOption result (¬ FitsBody method.now (behind_of effect (as_depth d)))
-        (λ b. FitsBody method.now (behind_of effect (as_depth d)) × (as_depth b ≡ behind_of effect (as_depth d))) }
+    ensures { MatchOption result (¬ FitsBody method.now (after_of effect (as_depth d)))
+        (λ b. FitsBody method.now (after_of effect (as_depth d)) × (as_depth b ≡ after_of effect (as_depth d))) }
 {
     let refs = u64::from(d.refs - effect.ref_pop) + u64::from(effect.ref_push);
     let cells = u64::from(d.cells - effect.cell_pop) + u64::from(effect.cell_push);
@@ -83,7 +83,7 @@ fn behind(method: &Method, effect: Effect, d: Depth) -> Option<Depth>
     })
 }
 
-/// Whether the instruction goes on behind itself.
+/// Whether the instruction goes on after itself.
 pub(crate) fn goes_on(insn: MInsn) -> bool
     ensures { result ≡ goes_on_of insn }
 {
@@ -98,7 +98,7 @@ pub(crate) fn goes_on(insn: MInsn) -> bool
 }
 
 /// The rule of the instruction of this size at the offset, which the depth reaches. Gives the depth
-/// behind it.
+/// after it.
 pub(crate) fn visit(
     image: &Image,
     method: &Method,
@@ -123,7 +123,7 @@ pub(crate) fn visit(
     if !fits_body(method, d) {
         return Err(CheckCause::Crosses);
     }
-    let Some(depth) = behind(method, moved, d) else {
+    let Some(depth) = suffix(method, moved, d) else {
         return Err(CheckCause::Crosses);
     };
     if goes_on(insn) && method.code.len() <= usize::from(pc) + size {

@@ -1,4 +1,4 @@
--- The parts behind the version are read exactly: tables, statics and main, and then the rows are matched.
+-- The parts after the version are read exactly: tables, statics and main, and then the rows are matched.
 use Rattle.std.proofs.Common.{◌≡◌, ℕ, ◌-◌, ◌^◌, ◌<◌, ◌≤◌, Bool, true, false, ◌&&◌, cond, ltb, eqb, List, [], ◌++◌, length, Option, Some, None, Result, Ok, refl, ap, subst, ◌∙◌, arith}
 use Rattle.std.specs.Prelude.{slice_get}
 use Rattle.std.proofs.lemmas.Bool.{ltb-false, le-ltb, eqb-true, and_parts}
@@ -10,7 +10,7 @@ use Rattle.image_form.specs.declared.record.Method.{Method}
 use Rattle.image_form.specs.declared.refusal.FormRefusal.{FormRefusal}
 use Rattle.image_form.specs.Format.{counted, type_bytes, sig_bytes, method_bytes}
 use Rattle.image_form.specs.Library.{signature}
-use Rattle.image_form.specs.Grammar.{Each, EachBehind, IsType, IsSelector, IsMethod, HasSignatures, IsMain, IsImage, most_types, most_methods}
+use Rattle.image_form.specs.Grammar.{Each, EachAfter, IsType, IsSelector, IsMethod, HasSignatures, IsMain, IsImage, most_types, most_methods}
 use Rattle.image_form.specs.Reading.{◌>>=◌, in_statics, in_main, static_refs_at, cell_at, static_cells_at, is_bare, names_main, main_at, first_unmatched, parts_at, matched}
 use Rattle.image_form.proofs.Readers.{IsBytes, Refuses, Taken, Reads, Reads-as, ok_then, bound, refuses_then, same_answer, made, field_reads, u2_reads, u2_tested, counted_reads, most_reads}
 use Rattle.image_form.proofs.TypeParts.{types_reads}
@@ -36,14 +36,14 @@ static_cells_reads = counted_reads cell_reads (most_reads 16384 in_statics (omeg
 -- the method that is there, without arguments and result
 record IsBare (place : Option Method) : Type 0 where
   method : Method
-  place_is : place ≡ Some method
+  slot_is : place ≡ Some method
   sig_is : method.sig ≡ signature 0 0 0
 
 bare_from : (place : Option Method) → is_bare place ≡ true → IsBare place
 bare_from (Some method) e =
     let p = and_parts (eqb method.sig.refs 0) (eqb method.sig.cells 0 && eqb method.sig.result 0) e in
     let q = and_parts (eqb method.sig.cells 0) (eqb method.sig.result 0) p.1 in
-    record { method = method; place_is = refl; sig_is = same_sig method.sig (signature 0 0 0) (eqb-true _ _ p.0) (eqb-true _ _ q.0) (eqb-true _ _ q.1) }
+    record { method = method; slot_is = refl; sig_is = same_sig method.sig (signature 0 0 0) (eqb-true _ _ p.0) (eqb-true _ _ q.0) (eqb-true _ _ q.1) }
 bare_from None e = absurd cc
 
 bare_sig : (sig : Sig) → sig ≡ signature 0 0 0 → (eqb sig.refs 0 && (eqb sig.cells 0 && eqb sig.result 0)) ≡ true
@@ -57,7 +57,7 @@ main_from : (methods : List Method) (main : ℕ) → main < 2 ^ 16 → names_mai
 main_from methods main lt e =
     let p = above_library (ltb main 32) (is_bare (slice_get methods (main - 32))) e in
     let b = bare_from (slice_get methods (main - 32)) p.1 in
-    record { method = b.method; main_fits = lt; not_library = ltb-false _ _ p.0; method_is = b.place_is; sig_is = b.sig_is }
+    record { method = b.method; main_fits = lt; not_library = ltb-false _ _ p.0; method_is = b.slot_is; sig_is = b.sig_is }
 
 main_to : (methods : List Method) (main : ℕ) → IsMain methods main → names_main methods main ≡ true
 main_to methods main h =
@@ -69,7 +69,7 @@ main_reads methods = Reads-as (u2_tested (names_main methods) in_main tt) (λ ma
 
 -- ---- all parts
 
--- the bytes behind the version
+-- the bytes after the version
 abbrev pub part_bytes : Image → List ℕ
 part_bytes image =
     counted type_bytes image.types ++ (counted sig_bytes image.selectors ++ (counted method_bytes image.methods ++ (u2 image.static_refs ++ (counted u2 image.static_cells ++ u2 image.main))))
@@ -77,7 +77,7 @@ part_bytes image =
 -- an image of the grammar, but for what its rows name
 record IsOfParts (image : Image) : Type 0 where
   version_is : image.version ≡ 1
-  types : (length image.types ≤ most_types) × EachBehind IsType [] image.types
+  types : (length image.types ≤ most_types) × EachAfter IsType [] image.types
   selectors : (length image.selectors ≤ 16384) × Each IsSelector image.selectors
   methods : (length image.methods ≤ most_methods) × Each (IsMethod image.types) image.methods
   static_refs : image.static_refs ≤ 16384

@@ -5,7 +5,7 @@ use Rattle.image_form.specs.declared.refusal.FormRefusal.TheVariants.{NotInfusio
 use Rattle.image_form.specs.Refused.{Shows}
 use Rattle.image_form.specs.Reading.{items_at}
 
--- what reads an item behind those before it
+-- what reads an item after those before it
 abbrev pub Part : Type 0 → Type 0
 Part A = List A → List ℕ → Result (A × List ℕ) FormRefusal
 

@@ -6,8 +6,8 @@ pub mod TypeParts
 pub mod MethodParts
 pub mod Matching
 pub mod ImageParts
-pub mod FrontsReaders
+pub mod PrefixesReaders
 pub mod Whole
-pub mod Fronts
+pub mod Prefixes
 pub mod SmallImage
 pub mod Refusals

@@ -9,18 +9,18 @@ use Rattle.image_form.specs.declared.record.TypeEntry.TheVariants.{Class, RefArr
 use Rattle.image_form.specs.declared.record.DispatchRow.{DispatchRow}
 use Rattle.image_form.specs.declared.record.Method.{Method}
 use Rattle.image_form.specs.Library.{signature, signature_in}
-use Rattle.image_form.specs.Grammar.{EachBehind, HasOneSignature, HasSignatures}
+use Rattle.image_form.specs.Grammar.{EachAfter, HasOneSignature, HasSignatures}
 use Rattle.image_form.specs.Reading.{is_one_signature, is_matched, is_entry_matched, first_unmatched}
 
 -- ---- tests of all items
 
-pub each_from : {A : Type 0} {P : A → Type 0} (test : A → Bool) → ((x : A) → test x ≡ true → P x) → (before xs : List A) → list_all test xs ≡ true → EachBehind (λ before x. P x) before xs
+pub each_from : {A : Type 0} {P : A → Type 0} (test : A → Bool) → ((x : A) → test x ≡ true → P x) → (before xs : List A) → list_all test xs ≡ true → EachAfter (λ before x. P x) before xs
 each_from test to before [] e = tt
 each_from test to before (x ∷ xs) e =
     let p = and_parts (test x) (list_all test xs) e in
     (to x p.0, each_from test to (before ++ x ∷ []) xs p.1)
 
-pub each_to : {A : Type 0} {P : A → Type 0} (test : A → Bool) → ((x : A) → P x → test x ≡ true) → (before xs : List A) → EachBehind (λ before x. P x) before xs → list_all test xs ≡ true
+pub each_to : {A : Type 0} {P : A → Type 0} (test : A → Bool) → ((x : A) → P x → test x ≡ true) → (before xs : List A) → EachAfter (λ before x. P x) before xs → list_all test xs ≡ true
 each_to test from before [] h = refl
 each_to test from before (x ∷ xs) h = and_from (test x) (list_all test xs) (from x h.0) (each_to test from (before ++ x ∷ []) xs h.1)
 
@@ -76,14 +76,14 @@ none_parts : (b : Bool) (index : ℕ) (rest : Option ℕ) → cond b rest (Some 
 none_parts true index rest e = (refl, e)
 none_parts false index rest e = absurd cc
 
-pub matched_from : (selectors : List Sig) (methods : List Method) (index : ℕ) (before entries : List TypeEntry) → first_unmatched selectors methods index entries ≡ None → EachBehind (λ before entry. HasSignatures selectors methods entry) before entries
+pub matched_from : (selectors : List Sig) (methods : List Method) (index : ℕ) (before entries : List TypeEntry) → first_unmatched selectors methods index entries ≡ None → EachAfter (λ before entry. HasSignatures selectors methods entry) before entries
 unfolding first_unmatched
 matched_from selectors methods index before [] e = tt
 matched_from selectors methods index before (entry ∷ entries) e =
     let p = none_parts (is_entry_matched selectors methods entry) index (first_unmatched selectors methods (suc index) entries) e in
     (entry_from selectors methods entry p.0, matched_from selectors methods (suc index) (before ++ entry ∷ []) entries p.1)
 
-pub matched_to : (selectors : List Sig) (methods : List Method) (index : ℕ) (before entries : List TypeEntry) → EachBehind (λ before entry. HasSignatures selectors methods entry) before entries → first_unmatched selectors methods index entries ≡ None
+pub matched_to : (selectors : List Sig) (methods : List Method) (index : ℕ) (before entries : List TypeEntry) → EachAfter (λ before entry. HasSignatures selectors methods entry) before entries → first_unmatched selectors methods index entries ≡ None
 unfolding first_unmatched
 matched_to selectors methods index before [] h = refl
 matched_to selectors methods index before (entry ∷ entries) h =

@@ -24,9 +24,9 @@ result_reads why h = Reads-as (u1_tested (λ result. leb result 3) why h) (λ re
 abbrev HasRefs : ℕ → Sig → Type 0
 HasRefs refs sig = (sig.cells < 2 ^ 16) × ((sig.result ≤ 3) × (sig.refs ≡ refs))
 
--- the bytes behind the count of references
-abbrev behind_refs : Sig → List ℕ
-behind_refs sig = u2 sig.cells ++ sig.result ∷ []
+-- the bytes after the count of references
+abbrev after_refs : Sig → List ℕ
+after_refs sig = u2 sig.cells ++ sig.result ∷ []
 
 same_refs : (refs cells result : ℕ) (sig : Sig) → sig ≡ signature refs cells result → sig.refs ≡ refs
 same_refs refs cells result sig e = ap (λ (s : Sig). s.refs) e
@@ -34,7 +34,7 @@ same_refs refs cells result sig e = ap (λ (s : Sig). s.refs) e
 with_refs : (refs : ℕ) (sig : Sig) → sig.refs ≡ refs → sig ≡ signature refs sig.cells sig.result
 with_refs refs sig e = ap (λ (n : ℕ). signature n sig.cells sig.result) e
 
-signature_reads : (refs : ℕ) (why : FormRefusal) → IsOfTables why → Reads Sig (HasRefs refs) behind_refs (signature_at refs why)
+signature_reads : (refs : ℕ) (why : FormRefusal) → IsOfTables why → Reads Sig (HasRefs refs) after_refs (signature_at refs why)
 unfolding signature_at
 signature_reads refs why h =
     Reads-as
@@ -148,7 +148,7 @@ frame_of method = (method.ref_locals, method.cell_locals, method.body)
 
 -- the bytes of a method, part by part as they are read
 abbrev method_parts : Method → List ℕ
-method_parts method = method.sig.refs ∷ [] ++ (behind_refs method.sig ++ (frame_bytes (frame_of method) ++ (sized method.code ++ (counted handler_bytes method.handlers ++ []))))
+method_parts method = method.sig.refs ∷ [] ++ (after_refs method.sig ++ (frame_bytes (frame_of method) ++ (sized method.code ++ (counted handler_bytes method.handlers ++ []))))
 
 method_parts_are : (method : Method) → method_parts method ≡ method_bytes method
 method_parts_are method =

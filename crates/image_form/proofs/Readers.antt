@@ -1,5 +1,5 @@
--- Readers: what a reader takes from the front is spelled there, it takes each spelling again, and what it
--- refuses is too short or breaks a rule of a table. Numbers, bytes behind their length, and lists.
+-- Readers: what a reader takes from the prefix is encoded there, it takes each encoding again, and what it
+-- refuses is too short or breaks a rule of a table. Numbers, bytes after their length, and lists.
 use Rattle.std.proofs.Common.{◌≡◌, ℕ, zero, suc, ◌+◌, ◌*◌, ◌/◌, ◌%◌, ◌^◌, ◌<◌, ◌≤◌, Bool, true, false, cond, leb, ltb, List, [], ◌∷◌, ◌++◌, length, get_or, take, drop, Result, Ok, Err, refl, sym, ap, subst, ◌∙◌, append_assoc, arith}
 use Rattle.std.specs.List.{flat_map}
 use Rattle.std.proofs.lemmas.Bool.{ltb-false, le-ltb, leb-true, le-leb}
@@ -8,14 +8,14 @@ use Rattle.image_instr.specs.Insn.{u2}
 use Rattle.image_form.specs.declared.refusal.FormRefusal.{FormRefusal}
 use Rattle.image_form.specs.declared.refusal.FormRefusal.TheVariants.{NotInfusion, FormVersion, Truncated, TrailingBytes, BadTable, Memory}
 use Rattle.image_form.specs.Format.{counted}
-use Rattle.image_form.specs.Grammar.{EachBehind}
+use Rattle.image_form.specs.Grammar.{EachAfter}
 use Rattle.image_form.specs.Reading.{◌>>=◌, u1_at, u2_at, slice_at, tested, items_at}
 
 -- each of the numbers is a byte
 abbrev pub IsBytes : List ℕ → Type 0
 IsBytes bytes = (i : ℕ) → get_or bytes i 0 < 256
 
--- a reader of values with bytes behind them
+-- a reader of values with bytes after them
 abbrev pub Reader : Type 0 → Type 0
 Reader A = List ℕ → Result (A × List ℕ) FormRefusal
 
@@ -33,19 +33,19 @@ abbrev pub Refuses : {B : Type 0} → Result B FormRefusal → Type 0
 Refuses (Ok x) = Unit {0}
 Refuses (Err why) = IsOfTables why
 
--- the value was taken from the front
+-- the value was taken from the prefix
 pub record Taken (A : Type 0) (Is : A → Type 0) (bytes_of : A → List ℕ) (bytes : List ℕ) (x : A × List ℕ) : Type 0 where
   pub is : Is x.0
   pub parts : bytes ≡ bytes_of x.0 ++ x.1
   pub rest_fits : IsBytes x.1
 
--- the reader reads the spellings of these values
+-- the reader reads the encodings of these values
 pub record Reads (A : Type 0) (Is : A → Type 0) (bytes_of : A → List ℕ) (read : Reader A) : Type 0 where
   pub again : (x : A) (rest : List ℕ) → Is x → read (bytes_of x ++ rest) ≡ Ok (x, rest)
   pub taken : (bytes : List ℕ) (x : A × List ℕ) → IsBytes bytes → read bytes ≡ Ok x → Taken A Is bytes_of bytes x
   pub refuses : (bytes : List ℕ) → Refuses (read bytes)
 
--- ---- one reader behind another
+-- ---- one reader after another
 
 pub ok_then : {A B : Type 0} {r : Result A FormRefusal} {x : A} {y : Result B FormRefusal} (f : A → Result B FormRefusal) → r ≡ Ok x → f x ≡ y → (r >>= f) ≡ y
 ok_then f e h = rw e h
@@ -73,11 +73,11 @@ same_answer x y e = cc
 -- ---- the same values and bytes in other words
 
 as_taken : {A : Type 0} {S T : A → Type 0} {s_bytes t_bytes : A → List ℕ} {bytes : List ℕ} {x : A × List ℕ} → ((x : A) → S x → T x) → ((x : A) → s_bytes x ≡ t_bytes x) → Taken A S s_bytes bytes x → Taken A T t_bytes bytes x
-as_taken {x} to text t = record { is = to x.0 t.is; parts = t.parts ∙ ap (λ (front : List ℕ). front ++ x.1) (text x.0); rest_fits = t.rest_fits }
+as_taken {x} to text t = record { is = to x.0 t.is; parts = t.parts ∙ ap (λ (prefix : List ℕ). prefix ++ x.1) (text x.0); rest_fits = t.rest_fits }
 
 pub Reads-as : {A : Type 0} {S T : A → Type 0} {s_bytes t_bytes : A → List ℕ} {read : Reader A} → Reads A S s_bytes read → ((x : A) → S x → T x) → ((x : A) → T x → S x) → ((x : A) → s_bytes x ≡ t_bytes x) → Reads A T t_bytes read
 Reads-as {read} r to from text = record {
-  again = λ x rest h. ap (λ (front : List ℕ). read (front ++ rest)) (sym (text x)) ∙ r.again x rest (from x h);
+  again = λ x rest h. ap (λ (prefix : List ℕ). read (prefix ++ rest)) (sym (text x)) ∙ r.again x rest (from x h);
   taken = λ bytes x fits e. as_taken to text (r.taken bytes x fits e);
   refuses = r.refuses;
 }
@@ -97,7 +97,7 @@ made value = record {
   refuses = λ bytes. tt;
 }
 
--- a field, and behind it the rest of the record, which may speak of it
+-- a field, and after it the rest of the record, which may speak of it
 module _ {A C : Type 0} {IsFirst : A → Type 0} {first_bytes : A → List ℕ} {read : Reader A} {IsRest : A → C → Type 0} {rest_bytes : C → List ℕ} {next : A → Reader C} (field_of : C → A) (field_is : (a : A) (c : C) → IsRest a c → field_of c ≡ a) (reads : Reads A IsFirst first_bytes read) (reads_rest : (a : A) → Reads C (IsRest a) rest_bytes (next a)) where
   abbrev go_on : A × List ℕ → Result (C × List ℕ) FormRefusal
   go_on x = next x.0 x.1
@@ -141,7 +141,7 @@ module _ {A C : Type 0} {IsFirst : A → Type 0} {first_bytes : A → List ℕ} 
 
 -- ---- numbers
 
--- two bytes are those of the number that they spell
+-- two bytes are those of the number that they encode
 u2_back : (a b : ℕ) → a < 256 → b < 256 → u2 (a * 256 + b) ≡ a ∷ b ∷ []
 u2_back a b la lb =
     let high : (a * 256 + b) / 256 % 256 ≡ a = omega arith in
@@ -245,7 +245,7 @@ u2_tested test why h = tested_reads test why h u2_reads
 pub most_reads : (most : ℕ) (why : FormRefusal) → most < 2 ^ 16 → IsOfTables why → Reads ℕ (λ count. count ≤ most) u2 (λ bytes. tested (λ count. leb count most) why (u2_at bytes))
 most_reads most why lt h = Reads-as (u2_tested (λ count. leb count most) why h) (λ count g. leb-true _ _ g.1) (λ count g. (omega (arith, g, lt), le-leb _ _ g)) (λ count. refl)
 
--- ---- bytes behind their length
+-- ---- bytes after their length
 
 slice_passes : {A : Type 0} (b : Bool) (x y : A) → cond b (Err Truncated) (Ok x) ≡ Ok y → (b ≡ false) × (x ≡ y)
 slice_passes true x y e = absurd cc
@@ -277,7 +277,7 @@ slice_refuses : (size : ℕ) (bytes : List ℕ) → Refuses (slice_at size bytes
 unfolding slice_at
 slice_refuses size bytes = slice_refuses_by (ltb (length bytes) size) (take size bytes, drop size bytes)
 
--- the bytes with their length in front
+-- the bytes with their length in prefix
 abbrev pub sized : List ℕ → List ℕ
 sized value = u2 (length value) ++ value
 
@@ -299,7 +299,7 @@ sized_taken {IsSize} {size_at} r bytes x fits e =
       rest_fits = value.rest_fits;
     }
 
--- so many bytes behind their length
+-- so many bytes after their length
 pub sized_reads : {IsSize : ℕ → Type 0} {size_at : Reader ℕ} → Reads ℕ IsSize u2 size_at → Reads (List ℕ) (λ value. IsSize (length value)) sized (λ bytes. size_at bytes >>= slice_then)
 sized_reads {size_at} r = record {
   again = sized_again r;
@@ -307,14 +307,14 @@ sized_reads {size_at} r = record {
   refuses = λ bytes. refuses_then (size_at bytes) slice_then (r.refuses bytes) (λ size. slice_refuses size.0 size.1);
 }
 
--- ---- lists behind their count
+-- ---- lists after their count
 
--- the items that were read behind those before them
+-- the items that were read after those before them
 record TakenItems (A : Type 0) (P : List A → A → Type 0) (item_bytes : A → List ℕ) (room : ℕ) (before : List A) (bytes : List ℕ) (y : List A × List ℕ) : Type 0 where
   items : List A
   all_are : y.0 ≡ before ++ items
   count_is : length items ≡ room
-  are : EachBehind P before items
+  are : EachAfter P before items
   parts : bytes ≡ flat_map item_bytes items ++ y.1
   rest_fits : IsBytes y.1
 
@@ -322,7 +322,7 @@ module _ {A : Type 0} {P : List A → A → Type 0} {item_bytes : A → List ℕ
   abbrev more : ℕ → List A → A × List ℕ → Result (List A × List ℕ) FormRefusal
   more room before item = items_at item_at room (before ++ item.0 ∷ []) item.1
 
-  items_again : (xs before : List A) (rest : List ℕ) → EachBehind P before xs → items_at item_at (length xs) before (flat_map item_bytes xs ++ rest) ≡ Ok (before ++ xs, rest)
+  items_again : (xs before : List A) (rest : List ℕ) → EachAfter P before xs → items_at item_at (length xs) before (flat_map item_bytes xs ++ rest) ≡ Ok (before ++ xs, rest)
   unfolding items_at
   items_again [] before rest h = ap (λ (all : List A). Ok (all, rest)) (sym (append-nil before))
   items_again (x ∷ xs) before rest h =
@@ -364,16 +364,16 @@ module _ {A : Type 0} {P : List A → A → Type 0} {item_bytes : A → List ℕ
   items_then count = items_at item_at count.0 [] count.1
 
   module _ {IsCount : ℕ → Type 0} {count_at : Reader ℕ} (counts : Reads ℕ IsCount u2 count_at) where
-    counted_again : (xs : List A) (rest : List ℕ) → IsCount (length xs) × EachBehind P [] xs → (count_at (counted item_bytes xs ++ rest) >>= items_then) ≡ Ok (xs, rest)
+    counted_again : (xs : List A) (rest : List ℕ) → IsCount (length xs) × EachAfter P [] xs → (count_at (counted item_bytes xs ++ rest) >>= items_then) ≡ Ok (xs, rest)
     counted_again xs rest h =
         ap (λ (text : List ℕ). count_at text >>= items_then) (append_assoc (u2 (length xs)) (flat_map item_bytes xs) rest)
         ∙ ok_then items_then (counts.again (length xs) (flat_map item_bytes xs ++ rest) h.0) (items_again xs [] rest h.1)
 
-    counted_by : (bytes : List ℕ) (n : ℕ) (back : List ℕ) (y : List A × List ℕ) → IsCount n → bytes ≡ u2 n ++ back → TakenItems A P item_bytes n [] back y → Taken (List A) (λ xs. IsCount (length xs) × EachBehind P [] xs) (counted item_bytes) bytes y
+    counted_by : (bytes : List ℕ) (n : ℕ) (back : List ℕ) (y : List A × List ℕ) → IsCount n → bytes ≡ u2 n ++ back → TakenItems A P item_bytes n [] back y → Taken (List A) (λ xs. IsCount (length xs) × EachAfter P [] xs) (counted item_bytes) bytes y
     counted_by bytes n back y is parts t =
         let count_is : length y.0 ≡ n = ap length t.all_are ∙ t.count_is in
         record {
-          is = (subst IsCount (sym count_is) is, subst (EachBehind P []) (sym t.all_are) t.are);
+          is = (subst IsCount (sym count_is) is, subst (EachAfter P []) (sym t.all_are) t.are);
           parts =
               parts
               ∙ ap (λ (rest : List ℕ). u2 n ++ rest) t.parts
@@ -383,14 +383,14 @@ module _ {A : Type 0} {P : List A → A → Type 0} {item_bytes : A → List ℕ
           rest_fits = t.rest_fits;
         }
 
-    counted_taken : (bytes : List ℕ) (y : List A × List ℕ) → IsBytes bytes → (count_at bytes >>= items_then) ≡ Ok y → Taken (List A) (λ xs. IsCount (length xs) × EachBehind P [] xs) (counted item_bytes) bytes y
+    counted_taken : (bytes : List ℕ) (y : List A × List ℕ) → IsBytes bytes → (count_at bytes >>= items_then) ≡ Ok y → Taken (List A) (λ xs. IsCount (length xs) × EachAfter P [] xs) (counted item_bytes) bytes y
     counted_taken bytes y fits e =
         let b = bound (count_at bytes) items_then y e in
         let count = counts.taken bytes b.first fits b.first_is in
         counted_by bytes b.first.0 b.first.1 y count.is count.parts (items_taken b.first.0 [] b.first.1 y count.rest_fits b.then_is)
 
-    -- so many items behind their count
-    pub counted_reads : Reads (List A) (λ xs. IsCount (length xs) × EachBehind P [] xs) (counted item_bytes) (λ bytes. count_at bytes >>= items_then)
+    -- so many items after their count
+    pub counted_reads : Reads (List A) (λ xs. IsCount (length xs) × EachAfter P [] xs) (counted item_bytes) (λ bytes. count_at bytes >>= items_then)
     counted_reads = record {
       again = counted_again;
       taken = counted_taken;

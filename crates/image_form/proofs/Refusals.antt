@@ -4,18 +4,18 @@ use Rattle.std.specs.Prelude.{IfOk, IfErr}
 use Rattle.image_form.specs.declared.record.Image.{Image}
 use Rattle.image_form.specs.declared.refusal.FormRefusal.{FormRefusal}
 use Rattle.image_form.specs.declared.refusal.FormRefusal.TheVariants.{NotInfusion, FormVersion, Truncated, TrailingBytes, BadTable, Memory}
-use Rattle.image_form.specs.Grammar.{IsSpelled}
+use Rattle.image_form.specs.Grammar.{IsEncoded}
 use Rattle.image_form.specs.Reading.{image_of}
 use Rattle.image_form.specs.Refused.{IsRefused, Gives}
 use Rattle.image_form.proofs.Readers.{IsBytes}
-use Rattle.image_form.proofs.Whole.{spelling_reads, read_is_spelling, refused_reads, read_is_refused}
+use Rattle.image_form.proofs.Whole.{encoding_reads, read_is_encoding, refused_reads, read_is_refused}
 
-pub is_found : (bytes : List ℕ) (result : Result Image FormRefusal) → IsBytes bytes → Gives result (image_of bytes) → IfOk result (λ image. IsSpelled bytes image)
-is_found bytes (Ok image) fits g = read_is_spelling bytes image fits g
+pub is_found : (bytes : List ℕ) (result : Result Image FormRefusal) → IsBytes bytes → Gives result (image_of bytes) → IfOk result (λ image. IsEncoded bytes image)
+is_found bytes (Ok image) fits g = read_is_encoding bytes image fits g
 is_found bytes (Err why) fits g = tt
 
-pub is_read : (bytes : List ℕ) (result : Result Image FormRefusal) → Gives result (image_of bytes) → (image : Image) → IsSpelled bytes image → Gives result (Ok image)
-is_read bytes result g image s = subst (Gives result) (spelling_reads bytes image s) g
+pub is_read : (bytes : List ℕ) (result : Result Image FormRefusal) → Gives result (image_of bytes) → (image : Image) → IsEncoded bytes image → Gives result (Ok image)
+is_read bytes result g image s = subst (Gives result) (encoding_reads bytes image s) g
 
 pub is_refused : (bytes : List ℕ) (result : Result Image FormRefusal) → IsBytes bytes → Gives result (image_of bytes) → IfErr result (λ why. (why ≡ Memory) ⊎ IsRefused bytes why)
 is_refused bytes (Ok image) fits g = tt

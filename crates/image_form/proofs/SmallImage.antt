@@ -25,7 +25,7 @@ class_is class s = record {
   interfaces_fit = omega arith;
   interfaces_are = tt;
   rows_fit = omega arith;
-  rows_stand = inl refl;
+  rows_hold = inl refl;
   rows_are = tt;
   name_fits = omega (arith, s.name_fits);
 }

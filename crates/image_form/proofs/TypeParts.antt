@@ -12,7 +12,7 @@ use Rattle.image_form.specs.declared.record.DispatchRow.{DispatchRow}
 use Rattle.image_form.specs.declared.refusal.FormRefusal.{FormRefusal}
 use Rattle.image_form.specs.Format.{counted, row_bytes, class_bytes, type_bytes}
 use Rattle.image_form.specs.Library.{names_type, names_parent, names_interface, refs_of, nums_of}
-use Rattle.image_form.specs.Grammar.{Each, EachBehind, is_above, IsRow, IsInterface, IsClass, is_ref_array, is_num_array, is_kind, IsRefArray, IsNumArray, IsType, most_types}
+use Rattle.image_form.specs.Grammar.{Each, EachAfter, is_above, IsRow, IsInterface, IsClass, is_ref_array, is_num_array, is_kind, IsRefArray, IsNumArray, IsType, most_types}
 use Rattle.image_form.specs.Reading.{◌>>=◌, u1_at, u2_at, tested, in_types, interface_at, interfaces_at, row_at, rows_at, name_at, refs_at, nums_at, class_at, element_at, kind_at, tagged_at, type_at, types_at}
 use Rattle.image_form.proofs.Readers.{Reader, IsBytes, Refuses, Taken, Reads, Reads-as, ok_then, bound, refuses_then, same_answer, made, field_reads, u1_reads, u2_reads, u1_tested, u2_tested, sized, sized_reads, counted_reads, most_reads}
 
@@ -56,7 +56,7 @@ row_count_reads index flags =
 
 -- the rows of a class with these flags
 abbrev AreRows : ℕ → List DispatchRow → Type 0
-AreRows flags rows = IsRowCount flags (length rows) × EachBehind IsRow [] rows
+AreRows flags rows = IsRowCount flags (length rows) × EachAfter IsRow [] rows
 
 rows_reads : (index flags : ℕ) → Reads (List DispatchRow) (AreRows flags) (counted row_bytes) (rows_at index flags)
 unfolding rows_at
@@ -68,7 +68,7 @@ name_reads = sized_reads u2_reads
 
 -- ---- the class
 
--- the refusal of the type behind these types
+-- the refusal of the type after these types
 abbrev in_this : List TypeEntry → FormRefusal
 in_this types = in_types (length types)
 
@@ -113,9 +113,9 @@ class_parts_are : (class : ClassEntry) → class_parts class ≡ class_bytes cla
 class_parts_are class =
     ap (λ (name : List ℕ). u2 class.parent ++ (class.flags ∷ (u2 class.refs ++ (u2 class.nums ++ (counted u2 class.interfaces ++ (counted row_bytes class.rows ++ name)))))) (append-nil (sized class.name))
 
-rows_stand : (flags : ℕ) (rows : List DispatchRow) → (flags ≡ 0) ⊎ (length rows ≡ 0) → (flags ≡ 0) ⊎ (rows ≡ [])
-rows_stand flags rows (inl e) = inl e
-rows_stand flags rows (inr e) = inr (nil_from_length rows e)
+rows_hold : (flags : ℕ) (rows : List DispatchRow) → (flags ≡ 0) ⊎ (length rows ≡ 0) → (flags ≡ 0) ⊎ (rows ≡ [])
+rows_hold flags rows (inl e) = inl e
+rows_hold flags rows (inr e) = inr (nil_from_length rows e)
 
 rows_count : (flags : ℕ) (rows : List DispatchRow) → (flags ≡ 0) ⊎ (rows ≡ []) → (flags ≡ 0) ⊎ (length rows ≡ 0)
 rows_count flags rows (inl e) = inl e
@@ -143,7 +143,7 @@ class_reads types =
       interfaces_fit = h.1.1.1.1.0.0;
       interfaces_are = h.1.1.1.1.0.1;
       rows_fit = h.1.1.1.1.1.0.0.0;
-      rows_stand = rows_stand class.flags class.rows h.1.1.1.1.1.0.0.1;
+      rows_hold = rows_hold class.flags class.rows h.1.1.1.1.1.0.0.1;
       rows_are = h.1.1.1.1.1.0.1;
       name_fits = h.1.1.1.1.1.1.0;
     })
@@ -157,7 +157,7 @@ class_reads types =
             (h.nums_cover, h.object_fits),
             (
               (h.interfaces_fit, h.interfaces_are),
-              (((h.rows_fit, rows_count class.flags class.rows h.rows_stand), h.rows_are), (h.name_fits, refl)),
+              (((h.rows_fit, rows_count class.flags class.rows h.rows_hold), h.rows_are), (h.name_fits, refl)),
             ),
           ),
         ),
@@ -208,9 +208,9 @@ kind_reads types =
     (λ kind h. (kind_fits kind h.kind_is, first_test (is_kind kind) (list_any (is_num_array kind) types) h.kind_is h.is_first))
     (λ kind. refl)
 
--- ---- entries behind their tag
+-- ---- entries after their tag
 
--- the tag of an entry, and the bytes behind it
+-- the tag of an entry, and the bytes after it
 abbrev tag_of : TypeEntry → ℕ
 tag_of (Class class) = 0
 tag_of (RefArray element) = 1
@@ -250,7 +250,7 @@ entry_taken {read} types tag make r is text bytes y fits e =
     let t = r.taken bytes b.first fits b.first_is in
     subst (Taken TypeEntry (IsTagged types tag) untagged bytes) (same_answer (make b.first.0, b.first.1) y b.then_is) (record {
       is = is b.first.0 t.is;
-      parts = t.parts ∙ ap (λ (front : List ℕ). front ++ b.first.1) (text b.first.0);
+      parts = t.parts ∙ ap (λ (prefix : List ℕ). prefix ++ b.first.1) (text b.first.0);
       rest_fits = t.rest_fits;
     })
 
@@ -305,6 +305,6 @@ type_reads types =
 
 -- ---- the types
 
-pub types_reads : Reads (List TypeEntry) (λ types. (length types ≤ most_types) × EachBehind IsType [] types) (counted type_bytes) types_at
+pub types_reads : Reads (List TypeEntry) (λ types. (length types ≤ most_types) × EachAfter IsType [] types) (counted type_bytes) types_at
 unfolding types_at
 types_reads = counted_reads type_reads (most_reads most_types (in_types 0) (omega arith) tt)

@@ -1,4 +1,4 @@
--- All the bytes: what an answer says of them, and which answer spellings get.
+-- All the bytes: what an answer says of them, and which answer encodings get.
 use Rattle.std.proofs.Common.{◌≡◌, ◌≢◌, ◌↔◌, ℕ, ◌+◌, ◌^◌, ◌<◌, Bool, true, false, cond, eqb, List, [], ◌++◌, length, take, drop, Result, Ok, Err, refl, sym, ap, subst, ◌∙◌, append_assoc, arith}
 use Rattle.std.specs.Str.{bytes_eq}
 use Rattle.std.proofs.lemmas.Bool.{eqb-true, eq-eqb, false_from_ne_true, eqb-false}
@@ -8,8 +8,8 @@ use Rattle.image_instr.specs.Insn.{u2}
 use Rattle.image_form.specs.declared.record.Image.{Image}
 use Rattle.image_form.specs.declared.refusal.FormRefusal.{FormRefusal}
 use Rattle.image_form.specs.declared.refusal.FormRefusal.TheVariants.{NotInfusion, FormVersion, Truncated, TrailingBytes, BadTable, Memory}
-use Rattle.image_form.specs.Format.{magic, spelling}
-use Rattle.image_form.specs.Grammar.{IsImage, IsSpelled, IsFollowed}
+use Rattle.image_form.specs.Format.{magic, encoding}
+use Rattle.image_form.specs.Grammar.{IsImage, IsEncoded, IsFollowed}
 use Rattle.image_form.specs.Reading.{◌>>=◌, u2_at, parts_at, whole_of, versioned, image_of}
 use Rattle.image_form.specs.Refused.{HasVersion, IsRefused}
 use Rattle.image_form.proofs.Readers.{IsBytes, IsOfTables, Refuses, ok_then, same_answer, u2_reads}
@@ -34,7 +34,7 @@ end_fails : (b : Bool) (x : Image) (why : FormRefusal) → cond b (Ok x) (Err Tr
 end_fails true x why e = absurd cc
 end_fails false x why e = (refl, cc)
 
--- ---- the image with bytes behind it
+-- ---- the image with bytes after it
 
 in_turn : {A B C : Type 0} (r : Result A FormRefusal) (f : A → Result B FormRefusal) (g : B → Result C FormRefusal) → (r >>= λ x. f x >>= g) ≡ ((r >>= f) >>= g)
 in_turn (Ok x) f g = refl
@@ -54,17 +54,17 @@ version_again version rest lt = ok_then (λ (x : ℕ × List ℕ). cond (eqb x.0
 magic_again : (rest : List ℕ) → image_of (magic ++ rest) ≡ versioned rest
 unfolding image_of
 magic_again rest =
-    let front : bytes_eq (take 4 (magic ++ rest)) magic ≡ true = (bytes_eq-Decides (take 4 (magic ++ rest)) magic).1 (take_at magic rest 4 refl) in
+    let prefix : bytes_eq (take 4 (magic ++ rest)) magic ≡ true = (bytes_eq-Decides (take 4 (magic ++ rest)) magic).1 (take_at magic rest 4 refl) in
     let back : drop 4 (magic ++ rest) ≡ rest = drop_at magic rest 4 refl in
-    ap (λ (b : Bool). cond b (versioned (drop 4 (magic ++ rest))) (Err NotInfusion)) front ∙ ap versioned back
+    ap (λ (b : Bool). cond b (versioned (drop 4 (magic ++ rest))) (Err NotInfusion)) prefix ∙ ap versioned back
 
--- the bytes behind the magic
+-- the bytes after the magic
 abbrev versioned_bytes : Image → List ℕ
 versioned_bytes image = u2 image.version ++ part_bytes image
 
-spelling_again : (image : Image) (rest : List ℕ) → IsImage image → image_of (spelling image ++ rest) ≡ ends (image, rest)
-spelling_again image rest h =
-    let apart : spelling image ++ rest ≡ magic ++ (u2 image.version ++ (part_bytes image ++ rest)) =
+encoding_again : (image : Image) (rest : List ℕ) → IsImage image → image_of (encoding image ++ rest) ≡ ends (image, rest)
+encoding_again image rest h =
+    let apart : encoding image ++ rest ≡ magic ++ (u2 image.version ++ (part_bytes image ++ rest)) =
     append_assoc magic (versioned_bytes image) rest ∙ ap (λ (text : List ℕ). magic ++ text) (append_assoc (u2 image.version) (part_bytes image) rest)
     in
     ap image_of apart
@@ -75,12 +75,12 @@ spelling_again image rest h =
 
 -- ---- what bytes may be
 
--- the bytes are no infusion, or of another version, or fail a table, or begin with the spelling of an image
+-- the bytes are no infusion, or of another version, or fail a table, or begin with the encoding of an image
 pub data Outcome (bytes : List ℕ) : Type 0 where
   foreign : take 4 bytes ≢ magic → image_of bytes ≡ Err NotInfusion → Outcome bytes
   other_version : (version : ℕ) → HasVersion bytes version → version ≢ 1 → image_of bytes ≡ Err (FormVersion version) → Outcome bytes
   failed : (why : FormRefusal) → IsOfTables why → image_of bytes ≡ Err why → Outcome bytes
-  spelled : (image : Image) (behind : List ℕ) → IsImage image → bytes ≡ spelling image ++ behind → image_of bytes ≡ ends (image, behind) → Outcome bytes
+  encoded : (image : Image) (suffix : List ℕ) → IsImage image → bytes ≡ encoding image ++ suffix → image_of bytes ≡ ends (image, suffix) → Outcome bytes
 
 abbrev to_ends : Result (Image × List ℕ) FormRefusal → Result Image FormRefusal
 to_ends r = r >>= ends
@@ -91,10 +91,10 @@ whole_outcome bytes rest (Ok x) fits parts answers e h =
     let t = image_reads.taken rest x fits e in
     let one : 1 ≡ x.0.version = sym t.is.version_is in
     let text : bytes ≡ magic ++ (u2 x.0.version ++ (part_bytes x.0 ++ x.1)) = parts ∙ ap (λ (back : List ℕ). magic ++ (u2 1 ++ back)) t.parts ∙ ap (λ (n : ℕ). magic ++ (u2 n ++ (part_bytes x.0 ++ x.1))) one in
-    let joined : magic ++ (u2 x.0.version ++ (part_bytes x.0 ++ x.1)) ≡ spelling x.0 ++ x.1 =
+    let joined : magic ++ (u2 x.0.version ++ (part_bytes x.0 ++ x.1)) ≡ encoding x.0 ++ x.1 =
     ap (λ (back : List ℕ). magic ++ back) (sym (append_assoc (u2 x.0.version) (part_bytes x.0) x.1)) ∙ sym (append_assoc magic (versioned_bytes x.0) x.1)
     in
-    spelled x.0 x.1 t.is (text ∙ joined) answers
+    encoded x.0 x.1 t.is (text ∙ joined) answers
 
 one_or_other : (bytes rest : List ℕ) (version : ℕ) (one : Bool) → IsBytes rest → version < 2 ^ 16 → bytes ≡ magic ++ (u2 version ++ rest) → eqb version 1 ≡ one → image_of bytes ≡ cond one (whole_of rest) (Err (FormVersion version)) → Outcome bytes
 one_or_other bytes rest version true fits lt parts test answers =
@@ -120,10 +120,10 @@ foreign_fails : (bytes : List ℕ) → bytes_eq (take 4 bytes) magic ≡ false �
 unfolding image_of
 foreign_fails bytes e = rw e refl
 
-magic_outcome : (bytes : List ℕ) (front : Bool) → IsBytes bytes → bytes_eq (take 4 bytes) magic ≡ front → Outcome bytes
+magic_outcome : (bytes : List ℕ) (prefix : Bool) → IsBytes bytes → bytes_eq (take 4 bytes) magic ≡ prefix → Outcome bytes
 magic_outcome bytes true fits e =
     let is : take 4 bytes ≡ magic = (bytes_eq-Decides (take 4 bytes) magic).0 e in
-    let parts : bytes ≡ magic ++ drop 4 bytes = sym (take-append-drop 4 bytes) ∙ ap (λ (front : List ℕ). front ++ drop 4 bytes) is in
+    let parts : bytes ≡ magic ++ drop 4 bytes = sym (take-append-drop 4 bytes) ∙ ap (λ (prefix : List ℕ). prefix ++ drop 4 bytes) is in
     versioned_outcome bytes (drop 4 bytes) (u2_at (drop 4 bytes)) (λ i. rw get_or-drop (fits (4 + i))) parts refl (u2_reads.refuses (drop 4 bytes))
 magic_outcome bytes false fits e = foreign (λ is. clash (sym e ∙ (bytes_eq-Decides (take 4 bytes) magic).1 is)) (foreign_fails bytes e)
   where
@@ -135,31 +135,31 @@ outcome bytes fits = magic_outcome bytes (bytes_eq (take 4 bytes) magic) fits re
 
 -- ---- an image
 
-pub spelling_reads : (bytes : List ℕ) (image : Image) → IsSpelled bytes image → image_of bytes ≡ Ok image
-spelling_reads bytes image s = ap image_of (s.1 ∙ sym (append-nil (spelling image))) ∙ spelling_again image [] s.0
+pub encoding_reads : (bytes : List ℕ) (image : Image) → IsEncoded bytes image → image_of bytes ≡ Ok image
+encoding_reads bytes image s = ap image_of (s.1 ∙ sym (append-nil (encoding image))) ∙ encoding_again image [] s.0
 
 no_image : (bytes : List ℕ) (image : Image) (why : FormRefusal) → image_of bytes ≡ Err why → image_of bytes ≡ Ok image → ⊥
 no_image bytes image why e h = cc
 
-spelled_by : (bytes : List ℕ) (image found : Image) (behind : List ℕ) → IsImage found → bytes ≡ spelling found ++ behind → ends (found, behind) ≡ Ok image → IsSpelled bytes image
-spelled_by bytes image found behind h parts e =
-    let p = end_passes (eqb (length behind) 0) found image e in
-    let none : behind ≡ [] = nil_from_length behind (eqb-true _ _ p.0) in
-    subst (IsSpelled bytes) p.1 (h, parts ∙ ap (λ (rest : List ℕ). spelling found ++ rest) none ∙ append-nil (spelling found))
+encoded_by : (bytes : List ℕ) (image found : Image) (suffix : List ℕ) → IsImage found → bytes ≡ encoding found ++ suffix → ends (found, suffix) ≡ Ok image → IsEncoded bytes image
+encoded_by bytes image found suffix h parts e =
+    let p = end_passes (eqb (length suffix) 0) found image e in
+    let none : suffix ≡ [] = nil_from_length suffix (eqb-true _ _ p.0) in
+    subst (IsEncoded bytes) p.1 (h, parts ∙ ap (λ (rest : List ℕ). encoding found ++ rest) none ∙ append-nil (encoding found))
 
-spelled_from : (bytes : List ℕ) (image : Image) → image_of bytes ≡ Ok image → Outcome bytes → IsSpelled bytes image
-spelled_from bytes image e (foreign h answers) = absurd (no_image bytes image NotInfusion answers e)
-spelled_from bytes image e (other_version version h other answers) = absurd (no_image bytes image (FormVersion version) answers e)
-spelled_from bytes image e (failed why h answers) = absurd (no_image bytes image why answers e)
-spelled_from bytes image e (spelled found behind h parts answers) = spelled_by bytes image found behind h parts (sym answers ∙ e)
+encoded_from : (bytes : List ℕ) (image : Image) → image_of bytes ≡ Ok image → Outcome bytes → IsEncoded bytes image
+encoded_from bytes image e (foreign h answers) = absurd (no_image bytes image NotInfusion answers e)
+encoded_from bytes image e (other_version version h other answers) = absurd (no_image bytes image (FormVersion version) answers e)
+encoded_from bytes image e (failed why h answers) = absurd (no_image bytes image why answers e)
+encoded_from bytes image e (encoded found suffix h parts answers) = encoded_by bytes image found suffix h parts (sym answers ∙ e)
 
-pub read_is_spelling : (bytes : List ℕ) (image : Image) → IsBytes bytes → image_of bytes ≡ Ok image → IsSpelled bytes image
-read_is_spelling bytes image fits e = spelled_from bytes image e (outcome bytes fits)
+pub read_is_encoding : (bytes : List ℕ) (image : Image) → IsBytes bytes → image_of bytes ≡ Ok image → IsEncoded bytes image
+read_is_encoding bytes image fits e = encoded_from bytes image e (outcome bytes fits)
 
 -- ---- refusals
 
 pub followed_reads : (bytes : List ℕ) → IsFollowed bytes → image_of bytes ≡ Err TrailingBytes
-followed_reads bytes f = ap image_of f.spelled ∙ spelling_again f.image f.behind f.of_grammar ∙ ends_followed f.image f.behind f.proper
+followed_reads bytes f = ap image_of f.encoded ∙ encoding_again f.image f.suffix f.of_grammar ∙ ends_followed f.image f.suffix f.proper
 
 foreign_reads : (bytes : List ℕ) → take 4 bytes ≢ magic → image_of bytes ≡ Err NotInfusion
 foreign_reads bytes h = foreign_fails bytes (false_from_ne_true (bytes_eq (take 4 bytes) magic) (λ e. h ((bytes_eq-Decides (take 4 bytes) magic).0 e)))
@@ -167,7 +167,7 @@ foreign_reads bytes h = foreign_fails bytes (false_from_ne_true (bytes_eq (take 
 version_reads : (bytes : List ℕ) (version : ℕ) → HasVersion bytes version → version ≢ 1 → image_of bytes ≡ Err (FormVersion version)
 version_reads bytes version h other =
     let rest : List ℕ = drop 6 bytes in
-    let text : bytes ≡ magic ++ (u2 version ++ rest) = sym (take-append-drop 6 bytes) ∙ ap (λ (front : List ℕ). front ++ rest) h.1 ∙ append_assoc magic (u2 version) rest in
+    let text : bytes ≡ magic ++ (u2 version ++ rest) = sym (take-append-drop 6 bytes) ∙ ap (λ (prefix : List ℕ). prefix ++ rest) h.1 ∙ append_assoc magic (u2 version) rest in
     ap image_of text
     ∙ magic_again (u2 version ++ rest)
     ∙ version_again version rest h.0
@@ -198,19 +198,19 @@ of_tables bytes TrailingBytes h e = absurd h
 of_tables bytes (BadTable table index) h e = e
 of_tables bytes Memory h e = absurd h
 
-left_some : (behind : List ℕ) → eqb (length behind) 0 ≡ false → behind ≢ []
-left_some behind e none = eqb-false _ _ e (ap length none)
+left_some : (suffix : List ℕ) → eqb (length suffix) 0 ≡ false → suffix ≢ []
+left_some suffix e none = eqb-false _ _ e (ap length none)
 
-followed_by : (bytes : List ℕ) (why : FormRefusal) (found : Image) (behind : List ℕ) → IsImage found → bytes ≡ spelling found ++ behind → ends (found, behind) ≡ Err why → IsRefused bytes why
-followed_by bytes why found behind h parts e =
-    let p = end_fails (eqb (length behind) 0) found why e in
-    subst (IsRefused bytes) p.1 (record { image = found; behind = behind; of_grammar = h; spelled = parts; proper = left_some behind p.0 })
+followed_by : (bytes : List ℕ) (why : FormRefusal) (found : Image) (suffix : List ℕ) → IsImage found → bytes ≡ encoding found ++ suffix → ends (found, suffix) ≡ Err why → IsRefused bytes why
+followed_by bytes why found suffix h parts e =
+    let p = end_fails (eqb (length suffix) 0) found why e in
+    subst (IsRefused bytes) p.1 (record { image = found; suffix = suffix; of_grammar = h; encoded = parts; proper = left_some suffix p.0 })
 
 refused_from : (bytes : List ℕ) (why : FormRefusal) → image_of bytes ≡ Err why → Outcome bytes → IsRefused bytes why
 refused_from bytes why e (foreign h answers) = refused_as bytes NotInfusion why answers e h
 refused_from bytes why e (other_version version h other answers) = refused_as bytes (FormVersion version) why answers e (h, other)
 refused_from bytes why e (failed found h answers) = refused_as bytes found why answers e (of_tables bytes found h answers)
-refused_from bytes why e (spelled found behind h parts answers) = followed_by bytes why found behind h parts (sym answers ∙ e)
+refused_from bytes why e (encoded found suffix h parts answers) = followed_by bytes why found suffix h parts (sym answers ∙ e)
 
 pub read_is_refused : (bytes : List ℕ) (why : FormRefusal) → IsBytes bytes → image_of bytes ≡ Err why → IsRefused bytes why
 read_is_refused bytes why fits e = refused_from bytes why e (outcome bytes fits)
@@ -222,13 +222,13 @@ refused_iff bytes why fits = (refused_reads bytes why, read_is_refused bytes why
 pub memory_serves : (bytes : List ℕ) → IsBytes bytes → image_of bytes ≢ Err Memory
 memory_serves bytes fits e = read_is_refused bytes Memory fits e
 
--- ---- spellings
+-- ---- encodings
 
-pub one_image : (bytes : List ℕ) (first second : Image) → IsSpelled bytes first → IsSpelled bytes second → first ≡ second
-one_image bytes first second s t = same_answer first second (sym (spelling_reads bytes first s) ∙ spelling_reads bytes second t)
+pub one_image : (bytes : List ℕ) (first second : Image) → IsEncoded bytes first → IsEncoded bytes second → first ≡ second
+one_image bytes first second s t = same_answer first second (sym (encoding_reads bytes first s) ∙ encoding_reads bytes second t)
 
-no_front_by : (first second : Image) (behind : List ℕ) → ends (first, behind) ≡ Ok second → behind ≡ []
-no_front_by first second behind e = nil_from_length behind (eqb-true _ _ (end_passes (eqb (length behind) 0) first second e).0)
+no_prefix_by : (first second : Image) (suffix : List ℕ) → ends (first, suffix) ≡ Ok second → suffix ≡ []
+no_prefix_by first second suffix e = nil_from_length suffix (eqb-true _ _ (end_passes (eqb (length suffix) 0) first second e).0)
 
-pub no_front : (first second : Image) (behind : List ℕ) → IsImage first → IsImage second → spelling first ++ behind ≡ spelling second → behind ≡ []
-no_front first second behind s t e = no_front_by first second behind (sym (spelling_again first behind s) ∙ spelling_reads (spelling first ++ behind) second (t, e))
+pub no_prefix : (first second : Image) (suffix : List ℕ) → IsImage first → IsImage second → encoding first ++ suffix ≡ encoding second → suffix ≡ []
+no_prefix first second suffix s t e = no_prefix_by first second suffix (sym (encoding_again first suffix s) ∙ encoding_reads (encoding first ++ suffix) second (t, e))

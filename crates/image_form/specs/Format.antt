@@ -1,5 +1,5 @@
 -- The bytes of an infusion of version 1: the parts of an image in the order of the file. Each list
--- stands behind its count.
+-- follows its count.
 use Rattle.std.specs.Prelude.{ℕ, List, [], ◌∷◌, ◌++◌, length}
 use Rattle.std.specs.List.{flat_map}
 use Rattle.image_instr.specs.Insn.{u2}
@@ -27,7 +27,7 @@ abbrev pub class_bytes : ClassEntry → List ℕ
 class_bytes class =
     u2 class.parent ++ (class.flags ∷ (u2 class.refs ++ (u2 class.nums ++ (counted u2 class.interfaces ++ (counted row_bytes class.rows ++ (u2 (length class.name) ++ class.name))))))
 
--- a type, behind its tag
+-- a type, after its tag
 abbrev pub type_bytes : TypeEntry → List ℕ
 type_bytes (Class class) = 0 ∷ class_bytes class
 type_bytes (RefArray element) = 1 ∷ u2 element
@@ -44,6 +44,6 @@ method_bytes method =
     sig_bytes method.sig ++ (u2 method.ref_locals ++ (u2 method.cell_locals ++ (u2 method.body ++ (u2 (length method.code) ++ (method.code ++ counted handler_bytes method.handlers)))))
 
 -- the bytes of an image: header, types, selectors, methods, statics and main
-abbrev pub spelling : Image → List ℕ
-spelling image =
+abbrev pub encoding : Image → List ℕ
+encoding image =
     magic ++ (u2 image.version ++ (counted type_bytes image.types ++ (counted sig_bytes image.selectors ++ (counted method_bytes image.methods ++ (u2 image.static_refs ++ (counted u2 image.static_cells ++ u2 image.main))))))

@@ -1,4 +1,4 @@
--- Which images an infusion of version 1 may hold, and what it is to be spelled: each rule is a field.
+-- Which images an infusion of version 1 may hold, and what it is to be encoded: each rule is a field.
 use Rattle.std.specs.Prelude.{◌≡◌, ◌≢◌, ◌⊎◌, ℕ, ◌+◌, ◌-◌, ◌^◌, ◌<◌, ◌≤◌, ◌==◌, Bool, true, false, ◌||◌, IsTrue, nat_lt, List, [], ◌∷◌, ◌++◌, length, slice_get, Option, Some, None}
 use Rattle.std.specs.List.{list_any}
 use Rattle.image_instr.specs.declared.signature.Sig.{Sig}
@@ -10,18 +10,18 @@ use Rattle.image_form.specs.declared.record.DispatchRow.{DispatchRow}
 use Rattle.image_form.specs.declared.record.Method.{Method}
 use Rattle.image_form.specs.declared.record.HandlerEntry.{HandlerEntry}
 use Rattle.image_form.specs.Library.{signature, names_type, names_class, names_parent, names_interface, refs_of, nums_of, signature_in}
-use Rattle.image_form.specs.Format.{spelling}
+use Rattle.image_form.specs.Format.{encoding}
 
 -- ---- lists
 
 -- each of the items meets this with the items before it, where these stand before all of them
-abbrev pub EachBehind : {A : Type 0} → (List A → A → Type 0) → List A → List A → Type 0
-EachBehind P before [] = Unit {0}
-EachBehind P before (item ∷ items) = P before item × EachBehind P (before ++ item ∷ []) items
+abbrev pub EachAfter : {A : Type 0} → (List A → A → Type 0) → List A → List A → Type 0
+EachAfter P before [] = Unit {0}
+EachAfter P before (item ∷ items) = P before item × EachAfter P (before ++ item ∷ []) items
 
 -- each of the items meets this
 abbrev pub Each : {A : Type 0} → (A → Type 0) → List A → Type 0
-Each P items = EachBehind (λ before item. P item) [] items
+Each P items = EachAfter (λ before item. P item) [] items
 
 -- ---- types
 
@@ -40,7 +40,7 @@ pub record IsRow (before : List DispatchRow) (row : DispatchRow) : Type 0 where
 abbrev pub IsInterface : List TypeEntry → ℕ → Type 0
 IsInterface types id = (id < 2 ^ 16) × IsTrue (names_interface types id)
 
--- a class or an interface behind these types
+-- a class or an interface after these types
 pub record IsClass (types : List TypeEntry) (class : ClassEntry) : Type 0 where
   pub parent_fits : class.parent < 2 ^ 16
   pub parent_is : IsTrue (names_parent types class.parent)
@@ -51,8 +51,8 @@ pub record IsClass (types : List TypeEntry) (class : ClassEntry) : Type 0 where
   pub interfaces_fit : length class.interfaces < 2 ^ 16
   pub interfaces_are : Each (IsInterface types) class.interfaces
   pub rows_fit : length class.rows < 2 ^ 16
-  pub rows_stand : (class.flags ≡ 0) ⊎ (class.rows ≡ [])
-  pub rows_are : EachBehind IsRow [] class.rows
+  pub rows_hold : (class.flags ≡ 0) ⊎ (class.rows ≡ [])
+  pub rows_are : EachAfter IsRow [] class.rows
   pub name_fits : length class.name < 2 ^ 16
 
 -- the entry is the array of elements of this type
@@ -82,7 +82,7 @@ pub record IsNumArray (types : List TypeEntry) (kind : ℕ) : Type 0 where
   pub kind_is : IsTrue (is_kind kind)
   pub is_first : list_any (is_num_array kind) types ≡ false
 
--- a type behind these types
+-- a type after these types
 abbrev pub IsType : List TypeEntry → TypeEntry → Type 0
 IsType types (Class class) = IsClass types class
 IsType types (RefArray element) = IsRefArray types element
@@ -154,7 +154,7 @@ most_methods = 16352
 pub record IsImage (image : Image) : Type 0 where
   pub version_is : image.version ≡ 1
   pub types_fit : length image.types ≤ most_types
-  pub types_are : EachBehind IsType [] image.types
+  pub types_are : EachAfter IsType [] image.types
   pub selectors_fit : length image.selectors ≤ 16384
   pub selectors_are : Each IsSelector image.selectors
   pub methods_fit : length image.methods ≤ most_methods
@@ -165,16 +165,16 @@ pub record IsImage (image : Image) : Type 0 where
   pub main_is : IsMain image.methods image.main
   pub rows_are : Each (HasSignatures image.selectors image.methods) image.types
 
--- ---- its spelling
+-- ---- its encoding
 
--- the image is of the grammar, and the bytes are its spelling
-abbrev pub IsSpelled : List ℕ → Image → Type 0
-IsSpelled bytes image = IsImage image × (bytes ≡ spelling image)
+-- the image is of the grammar, and the bytes are its encoding
+abbrev pub IsEncoded : List ℕ → Image → Type 0
+IsEncoded bytes image = IsImage image × (bytes ≡ encoding image)
 
--- the spelling of an image is a proper front of the bytes
+-- the encoding of an image is a proper prefix of the bytes
 pub record IsFollowed (bytes : List ℕ) : Type 0 where
   pub image : Image
-  pub behind : List ℕ
+  pub suffix : List ℕ
   pub of_grammar : IsImage image
-  pub spelled : bytes ≡ spelling image ++ behind
-  pub proper : behind ≢ []
+  pub encoded : bytes ≡ encoding image ++ suffix
+  pub proper : suffix ≢ []

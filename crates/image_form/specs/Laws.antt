@@ -1,21 +1,21 @@
 -- Laws of the format.
 use Rattle.std.specs.Prelude.{◌≡◌, List, ℕ, [], ◌++◌}
 use Rattle.image_form.specs.declared.record.Image.{Image}
-use Rattle.image_form.specs.Format.{spelling}
-use Rattle.image_form.specs.Grammar.{IsImage, IsSpelled}
+use Rattle.image_form.specs.Format.{encoding}
+use Rattle.image_form.specs.Grammar.{IsImage, IsEncoded}
 use Rattle.image_form.specs.SmallForm.{IsSmall}
 
--- an image has one spelling
-abbrev pub HasOneSpelling : Type 0
-HasOneSpelling = (image : Image) (first second : List ℕ) → IsSpelled first image → IsSpelled second image → first ≡ second
+-- an image has one encoding
+abbrev pub HasOneEncoding : Type 0
+HasOneEncoding = (image : Image) (first second : List ℕ) → IsEncoded first image → IsEncoded second image → first ≡ second
 
--- equal spellings are those of equal images
-abbrev pub SpellsOneImage : Type 0
-SpellsOneImage = (bytes : List ℕ) (first second : Image) → IsSpelled bytes first → IsSpelled bytes second → first ≡ second
+-- equal encodings are those of equal images
+abbrev pub IsInjective : Type 0
+IsInjective = (bytes : List ℕ) (first second : Image) → IsEncoded bytes first → IsEncoded bytes second → first ≡ second
 
--- no spelling is a proper front of another
-abbrev pub NoneIsFrontOfAnother : Type 0
-NoneIsFrontOfAnother = (first second : Image) (behind : List ℕ) → IsImage first → IsImage second → spelling first ++ behind ≡ spelling second → behind ≡ []
+-- no encoding is a proper prefix of another
+abbrev pub IsPrefixFree : Type 0
+IsPrefixFree = (first second : Image) (suffix : List ℕ) → IsImage first → IsImage second → encoding first ++ suffix ≡ encoding second → suffix ≡ []
 
 -- an image of the small form is of the grammar
 abbrev pub SmallIsImage : Type 0

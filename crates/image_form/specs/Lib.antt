@@ -5,4 +5,4 @@ pub mod SmallForm
 pub mod Reading
 pub mod Refused
 pub mod Laws
-pub mod Fronts
+pub mod Prefixes

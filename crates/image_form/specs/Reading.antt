@@ -1,4 +1,4 @@
--- Reading as a function on lists: a part is a value and the bytes behind it, or a refusal. Each rule is
+-- Reading as a function on lists: a part is a value and the bytes after it, or a refusal. Each rule is
 -- tested when the last byte of the numbers that it speaks of was read.
 use Rattle.std.specs.Prelude.{ℕ, zero, suc, ◌+◌, ◌-◌, ◌*◌, Bool, true, false, ◌&&◌, ◌||◌, not, ◌==◌, nat_lt, nat_le, if◌then◌else◌, List, [], ◌∷◌, ◌++◌, length, take, drop, slice_get, Option, Some, None, Result, Ok, Err}
 use Rattle.std.specs.Str.{bytes_eq}
@@ -44,7 +44,7 @@ abbrev pub tested : {A : Type 0} → (A → Bool) → FormRefusal → Result (A 
 tested test why (Ok part) = if test part.0 then Ok part else Err why
 tested test why (Err other) = Err other
 
--- so many items behind those that were read, each read in the light of those before it
+-- so many items after those that were read, each read in the light of those before it
 unfoldable pub items_at : {A : Type 0} → (List A → List ℕ → Result (A × List ℕ) FormRefusal) → ℕ → List A → List ℕ → Result (List A × List ℕ) FormRefusal
 items_at item_at zero before bytes = Ok (before, bytes)
 items_at item_at (suc room) before bytes = do
@@ -70,7 +70,7 @@ in_main = BadTable 4 0
 
 -- ---- types
 
--- a direct superinterface of the class behind these types
+-- a direct superinterface of the class after these types
 unfoldable pub interface_at : List TypeEntry → List ℕ → List ℕ → Result (ℕ × List ℕ) FormRefusal
 interface_at types before bytes = tested (names_interface types) (in_types (length types)) (u2_at bytes)
 
@@ -80,7 +80,7 @@ interfaces_at types bytes = do
   count ← u2_at bytes
   items_at (interface_at types) count.0 [] count.1
 
--- a row of the class at this index, behind the rows before it
+-- a row of the class at this index, after the rows before it
 unfoldable pub row_at : ℕ → List DispatchRow → List ℕ → Result (DispatchRow × List ℕ) FormRefusal
 row_at index before bytes = do
   selector ← tested (is_above (slice_get before (length before - 1))) (in_types index) (u2_at bytes)
@@ -108,7 +108,7 @@ abbrev pub nums_at : List TypeEntry → ℕ → ℕ → List ℕ → Result (ℕ
 nums_at types parent refs bytes =
     tested (λ nums. nat_le (nums_of types parent) nums && nat_le (2 + (refs + nums)) 32767) (in_types (length types)) (u2_at bytes)
 
--- the class behind these types
+-- the class after these types
 unfoldable pub class_at : List TypeEntry → List ℕ → Result (ClassEntry × List ℕ) FormRefusal
 class_at types bytes = do
   parent ← tested (names_parent types) (in_types (length types)) (u2_at bytes)
@@ -120,17 +120,17 @@ class_at types bytes = do
   name ← name_at rows.1
   Ok (record { parent = parent.0; flags = flags.0; refs = refs.0; nums = nums.0; interfaces = interfaces.0; rows = rows.0; name = name.0 }, name.1)
 
--- the element of an array behind these types, none of which is this array
+-- the element of an array after these types, none of which is this array
 unfoldable pub element_at : List TypeEntry → List ℕ → Result (ℕ × List ℕ) FormRefusal
 element_at types bytes =
     tested (λ element. names_type types element && not (list_any (is_ref_array element) types)) (in_types (length types)) (u2_at bytes)
 
--- the kind of an array of whole numbers behind these types, none of which is this array
+-- the kind of an array of whole numbers after these types, none of which is this array
 unfoldable pub kind_at : List TypeEntry → List ℕ → Result (ℕ × List ℕ) FormRefusal
 kind_at types bytes =
     tested (λ kind. is_kind kind && not (list_any (is_num_array kind) types)) (in_types (length types)) (u1_at bytes)
 
--- the type with this tag behind these types
+-- the type with this tag after these types
 unfoldable pub tagged_at : List TypeEntry → ℕ → List ℕ → Result (TypeEntry × List ℕ) FormRefusal
 tagged_at types tag bytes =
     if tag == 0 then (class_at types bytes >>= λ class. Ok (Class class.0, class.1))
@@ -138,7 +138,7 @@ tagged_at types tag bytes =
     else (if tag == 2 then (kind_at types bytes >>= λ kind. Ok (NumArray kind.0, kind.1))
     else Err (in_types (length types))))
 
--- the type behind these types
+-- the type after these types
 unfoldable pub type_at : List TypeEntry → List ℕ → Result (TypeEntry × List ℕ) FormRefusal
 type_at types bytes = do
   tag ← u1_at bytes
@@ -159,7 +159,7 @@ signature_at refs why bytes = do
   result ← tested (λ result. nat_le result 3) why (u1_at cells.1)
   Ok (signature refs cells.0 result.0, result.1)
 
--- the selector behind these selectors, with a receiver
+-- the selector after these selectors, with a receiver
 unfoldable pub selector_at : List Sig → List ℕ → Result (Sig × List ℕ) FormRefusal
 selector_at before bytes = do
   refs ← tested (nat_le 1) (in_selectors (length before)) (u1_at bytes)
@@ -202,7 +202,7 @@ frame_at index sig bytes = do
   body ← tested (λ body. nat_le (ref_locals.0 + cell_locals.0) body && nat_le body 32763) (in_methods index) (u2_at cell_locals.1)
   Ok ((ref_locals.0, cell_locals.0, body.0), body.1)
 
--- the method behind these methods, over these types
+-- the method after these methods, over these types
 unfoldable pub method_at : List TypeEntry → List Method → List ℕ → Result (Method × List ℕ) FormRefusal
 method_at types before bytes = do
   refs ← u1_at bytes
@@ -247,7 +247,7 @@ names_main methods id = if nat_lt id 32 then false else is_bare (slice_get metho
 unfoldable pub main_at : List Method → List ℕ → Result (ℕ × List ℕ) FormRefusal
 main_at methods bytes = tested (names_main methods) in_main (u2_at bytes)
 
--- ---- the rows' signatures, which are tested behind main
+-- ---- the rows' signatures, which are tested after main
 
 -- the two are there and are one signature
 abbrev pub is_one_signature : Option Sig → Option Sig → Bool
@@ -273,7 +273,7 @@ first_unmatched selectors methods index (entry ∷ entries) =
 
 -- ---- the whole
 
--- the parts behind the version
+-- the parts after the version
 unfoldable pub parts_at : List ℕ → Result (Image × List ℕ) FormRefusal
 parts_at bytes = do
   types ← types_at bytes
@@ -284,19 +284,19 @@ parts_at bytes = do
   main ← main_at methods.0 static_cells.1
   Ok (record { version = 1; types = types.0; selectors = selectors.0; methods = methods.0; static_refs = static_refs.0; static_cells = static_cells.0; main = main.0 }, main.1)
 
--- an image and the bytes behind it, where all rows are matched
+-- an image and the bytes after it, where all rows are matched
 abbrev pub matched : Option ℕ → Image × List ℕ → Result (Image × List ℕ) FormRefusal
 matched None part = Ok part
 matched (Some index) part = Err (in_types index)
 
--- the image with these bytes behind the version, all of them
+-- the image with these bytes after the version, all of them
 unfoldable pub whole_of : List ℕ → Result Image FormRefusal
 whole_of bytes = do
   part ← parts_at bytes
   image ← matched (first_unmatched part.0.selectors part.0.methods 0 part.0.types) part
   if length image.1 == 0 then Ok image.0 else Err TrailingBytes
 
--- the image with these bytes behind the first four
+-- the image with these bytes after the first four
 unfoldable pub versioned : List ℕ → Result Image FormRefusal
 versioned bytes = do
   version ← u2_at bytes

@@ -7,7 +7,7 @@ use Rattle.image_form.specs.Format.{magic}
 use Rattle.image_form.specs.Grammar.{IsFollowed}
 use Rattle.image_form.specs.Reading.{image_of}
 
--- two bytes behind the magic spell this version
+-- two bytes after the magic encode this version
 abbrev pub HasVersion : List ℕ → ℕ → Type 0
 HasVersion bytes version = (version < 2 ^ 16) × (take 6 bytes ≡ magic ++ u2 version)
 

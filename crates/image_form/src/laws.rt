@@ -1,11 +1,11 @@
-ghost use Rattle.image_form.specs.Fronts.{FaultsStand, FrontsAreTruncated, FrontsOfFaults, FrontsOfTruncated, NoneBeginsWithFaults};
-ghost use Rattle.image_form.specs.Laws.{HasOneSpelling, SpellsOneImage, NoneIsFrontOfAnother, SmallIsImage};
+ghost use Rattle.image_form.specs.Prefixes.{FaultsHold, PrefixesAreTruncated, PrefixesOfFaults, PrefixesOfTruncated, NoneBeginsWithFaults};
+ghost use Rattle.image_form.specs.Laws.{HasOneEncoding, IsInjective, IsPrefixFree, SmallIsImage};
 
-/// An image has one spelling and a spelling is that of one image, and none is a proper front of another.
-pub fn one_spelling()
-    ensures spelling { HasOneSpelling }
-    ensures image { SpellsOneImage }
-    ensures front { NoneIsFrontOfAnother }
+/// An image has one encoding and a encoding is that of one image, and none is a proper prefix of another.
+pub fn encoding_is_injective()
+    ensures encoding { HasOneEncoding }
+    ensures image { IsInjective }
+    ensures prefix { IsPrefixFree }
 {}
 
 /// An image of the small form is of the grammar.
@@ -13,12 +13,12 @@ pub fn small_is_image()
     ensures { SmallIsImage }
 {}
 
-/// An infusion that is cut off is truncated, a fault stands whatever follows it, and in front of the first
+/// An infusion that is cut off is truncated, a fault stands whatever follows it, and before the first
 /// fault there is no other.
-pub fn fronts_decide()
-    ensures cut { FrontsAreTruncated }
-    ensures stands { FaultsStand }
+pub fn prefixes_decide()
+    ensures cut { PrefixesAreTruncated }
+    ensures stands { FaultsHold }
     ensures none { NoneBeginsWithFaults }
-    ensures first { FrontsOfFaults }
-    ensures truncated { FrontsOfTruncated }
+    ensures first { PrefixesOfFaults }
+    ensures truncated { PrefixesOfTruncated }
 {}

@@ -89,7 +89,7 @@ fn listed_selectors(
     Ok((selectors, rest))
 }
 
-/// The selectors behind their count.
+/// The selectors after their count.
 #[tactic(auto, unfolding(crate::specs::Reading::selectors_at))]
 pub(crate) fn selectors_at(alloc: Global, bytes: &[u8]) -> Result<(Items<Sig>, &[u8]), FormRefusal>
     ensures { Shows (λ x. (x.0, x.1.now)) result (selectors_at bytes.now) }
@@ -160,7 +160,7 @@ fn listed_handlers<'a>(
     Ok((handlers, rest))
 }
 
-/// The handlers of the method at an index, behind their count.
+/// The handlers of the method at an index, after their count.
 #[tactic(auto, unfolding(crate::specs::Reading::handlers_at))]
 fn handlers_at<'a>(
     alloc: Global,
@@ -175,7 +175,7 @@ fn handlers_at<'a>(
     Ok((Items::from_vec(handlers), rest))
 }
 
-/// The code of the method at an index, behind its length.
+/// The code of the method at an index, after its length.
 #[tactic(auto, unfolding(crate::specs::Reading::code_at))]
 fn code_at(alloc: Global, index: u16, bytes: &[u8]) -> Result<(Items<u8>, &[u8]), FormRefusal>
     ensures { Shows (λ x. (x.0, x.1.now)) result (code_at index bytes.now) }
@@ -243,7 +243,7 @@ fn frame_at(index: u16, sig: Sig, bytes: &[u8]) -> Result<((u16, u16, u16), &[u8
     Ok(((ref_locals, cell_locals, body), rest))
 }
 
-/// The method behind these methods.
+/// The method after these methods.
 #[tactic(auto, unfolding(crate::specs::Reading::method_at))]
 fn method_at<'a>(
     alloc: Global,
@@ -290,7 +290,7 @@ fn listed_methods<'a>(
     Ok((methods, rest))
 }
 
-/// The methods behind their count.
+/// The methods after their count.
 #[tactic(auto, unfolding(crate::specs::Reading::methods_at))]
 pub(crate) fn methods_at<'a>(
     alloc: Global,

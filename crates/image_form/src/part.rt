@@ -8,7 +8,7 @@ use crate::refusal::FormRefusal;
 use item_list::Items;
 use std::alloc::Global;
 
-/// A number of one byte, and the bytes behind it.
+/// A number of one byte, and the bytes after it.
 #[tactic(auto, unfolding(crate::specs::Reading::u1_at))]
 pub(crate) fn u1_at(bytes: &[u8]) -> Result<(u8, &[u8]), FormRefusal>
     ensures { Shows (λ x. (x.0, x.1.now)) result (u1_at bytes.now) }
@@ -19,7 +19,7 @@ pub(crate) fn u1_at(bytes: &[u8]) -> Result<(u8, &[u8]), FormRefusal>
     }
 }
 
-/// A number of two bytes, and the bytes behind it.
+/// A number of two bytes, and the bytes after it.
 #[tactic(auto, unfolding(crate::specs::Reading::u2_at))]
 pub(crate) fn u2_at(bytes: &[u8]) -> Result<(u16, &[u8]), FormRefusal>
     ensures { Shows (λ x. (x.0, x.1.now)) result (u2_at bytes.now) }
@@ -31,7 +31,7 @@ pub(crate) fn u2_at(bytes: &[u8]) -> Result<(u16, &[u8]), FormRefusal>
     }
 }
 
-/// So many bytes, and those behind them.
+/// So many bytes, and those after them.
 #[tactic(auto, unfolding(crate::specs::Reading::slice_at))]
 pub(crate) fn slice_at(
     alloc: Global,
@@ -48,7 +48,7 @@ pub(crate) fn slice_at(
     Ok((Items::from_vec(Vec::from_slice(alloc, items)?), rest))
 }
 
-/// A name behind its length, and the bytes behind it.
+/// A name after its length, and the bytes after it.
 #[tactic(auto, unfolding(crate::specs::Reading::name_at))]
 pub(crate) fn name_at(alloc: Global, bytes: &[u8]) -> Result<(Items<u8>, &[u8]), FormRefusal>
     ensures { Shows (λ x. (x.0, x.1.now)) result (name_at bytes.now) }

@@ -4,7 +4,7 @@ ghost use Rattle.std.specs.Prelude.{◌≡◌, ◌⊎◌, ◌≤◌, length, Ok,
 ghost use Rattle.image_form.specs.declared.record.Image.{Image as Record};
 ghost use Rattle.image_form.specs.declared.refusal.FormRefusal.{FormRefusal as Refusal};
 ghost use Rattle.image_form.specs.declared.refusal.FormRefusal.TheVariants.{Memory};
-ghost use Rattle.image_form.specs.Grammar.{most_types, IsSpelled};
+ghost use Rattle.image_form.specs.Grammar.{most_types, IsEncoded};
 ghost use Rattle.image_form.specs.Refused.{IsRefused, Shows, Gives};
 ghost use Rattle.image_form.specs.Reading.{first_unmatched, parts_at, whole_of, versioned, image_of};
 
@@ -17,7 +17,7 @@ use crate::statics::{main_at, static_cells_at, static_refs_at};
 use crate::types::types_at;
 use std::alloc::Global;
 
-/// The parts behind the version.
+/// The parts after the version.
 #[tactic(auto, unfolding(crate::specs::Reading::parts_at))]
 fn parts_at(alloc: Global, bytes: &[u8]) -> Result<(Image, &[u8]), FormRefusal>
     ensures value { Shows (λ x. (x.0, x.1.now)) result (parts_at bytes.now) }
@@ -53,7 +53,7 @@ fn unmatched_in(image: &Image) -> Option<u16>
     )
 }
 
-/// The image with these bytes behind the version, all of them.
+/// The image with these bytes after the version, all of them.
 #[tactic(auto, unfolding(crate::specs::Reading::whole_of))]
 fn whole_of(alloc: Global, bytes: &[u8]) -> Result<Image, FormRefusal>
     ensures { Gives result (whole_of bytes.now) }
@@ -68,7 +68,7 @@ fn whole_of(alloc: Global, bytes: &[u8]) -> Result<Image, FormRefusal>
     Ok(image)
 }
 
-/// The image with these bytes behind the first four.
+/// The image with these bytes after the first four.
 #[tactic(auto, unfolding(crate::specs::Reading::versioned))]
 fn versioned(alloc: Global, bytes: &[u8]) -> Result<Image, FormRefusal>
     ensures { Gives result (versioned bytes.now) }
@@ -94,11 +94,11 @@ fn image_of(alloc: Global, bytes: &[u8]) -> Result<Image, FormRefusal>
 /// Reads the bytes of an infusion, all of them. Where bytes are refused, the cause is the first rule that
 /// they fail.
 pub fn read_image(alloc: Global, bytes: &[u8]) -> Result<Image, FormRefusal>
-    // What is read is an image of the grammar, and the bytes are its spelling.
-    ensures found { IfOk result (λ image. IsSpelled bytes.now image) }
+    // What is read is an image of the grammar, and the bytes are its encoding.
+    ensures found { IfOk result (λ image. IsEncoded bytes.now image) }
 
-    // The spelling of an image is read, unless memory runs out.
-    ensures only { (image : Record) → IsSpelled bytes.now image → Gives result (Ok image) }
+    // The encoding of an image is read, unless memory runs out.
+    ensures only { (image : Record) → IsEncoded bytes.now image → Gives result (Ok image) }
 
     // Other bytes are refused for the cause that they give, unless memory runs out.
     ensures refused { IfErr result (λ why. (why ≡ Memory) ⊎ IsRefused bytes.now why) }

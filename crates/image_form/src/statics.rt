@@ -54,7 +54,7 @@ fn listed_cells(alloc: Global, count: u16, bytes: &[u8]) -> Result<(Vec<u16>, &[
     Ok((cells, rest))
 }
 
-/// The initial cells of the other statics, behind their count.
+/// The initial cells of the other statics, after their count.
 #[tactic(auto, unfolding(crate::specs::Reading::static_cells_at))]
 pub(crate) fn static_cells_at(
     alloc: Global,

@@ -182,7 +182,7 @@ fn reads_all_that_an_infusion_has(rt: HostRuntime) -> Result<(), Fail> {
 }
 
 #[test]
-fn refuses_each_front_and_what_stands_behind(rt: HostRuntime) -> Result<(), Fail> {
+fn refuses_each_prefix_and_what_follows(rt: HostRuntime) -> Result<(), Fail> {
     for len in 0..175 {
         let want = if len < 4 {
             FormRefusal::NotInfusion
@@ -333,7 +333,7 @@ fn tests_each_number(rt: HostRuntime) {
 }
 
 #[test]
-fn tests_what_rows_name_behind_main(rt: HostRuntime) -> Result<(), Fail> {
+fn tests_what_rows_name_after_main(rt: HostRuntime) -> Result<(), Fail> {
     let mut bytes = Vec::from_slice(rt.alloc(), &ALL)?;
     // The first row names a method of another signature.
     bytes[55] = 33;

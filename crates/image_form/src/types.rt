@@ -1,5 +1,5 @@
-//! The table of types: classes and interfaces, each behind its superclass and its superinterfaces, and
-//! arrays, each behind its elements.
+//! The table of types: classes and interfaces, each after its superclass and its superinterfaces, and
+//! arrays, each after its elements.
 
 ghost use Rattle.std.specs.Prelude.{◌≡◌, ◌+◌, ◌-◌, ◌^◌, ◌<◌, ◌≤◌, ◌&&◌, not, nat_le, [], length, slice_get, IfOk};
 ghost use Rattle.std.specs.List.{list_any};
@@ -28,7 +28,7 @@ fn bad_type(index: u16) -> FormRefusal
     FormRefusal::BadTable { table: 0, index }
 }
 
-/// The refusal of the entry behind these types.
+/// The refusal of the entry after these types.
 fn bad_next(types: &[TypeEntry]) -> FormRefusal
     requires { length types.now < 2 ^ 16 }
     ensures { result ≡ in_types (length types.now) }
@@ -69,7 +69,7 @@ fn listed_interfaces<'a>(
     Ok((interfaces, rest))
 }
 
-/// The direct superinterfaces behind their count.
+/// The direct superinterfaces after their count.
 #[tactic(auto, unfolding(crate::specs::Reading::interfaces_at))]
 fn interfaces_at<'a>(
     alloc: Global,
@@ -94,7 +94,7 @@ fn is_above(before: &[DispatchRow], selector: u16) -> bool
     }
 }
 
-/// A dispatch row of the class at an index, behind the rows before it.
+/// A dispatch row of the class at an index, after the rows before it.
 #[tactic(auto, unfolding(crate::specs::Reading::row_at))]
 fn row_at<'a>(
     index: u16,
@@ -130,7 +130,7 @@ fn listed_rows(
     Ok((rows, rest))
 }
 
-/// The dispatch rows behind their count, for a class with these flags at an index.
+/// The dispatch rows after their count, for a class with these flags at an index.
 #[tactic(auto, unfolding(crate::specs::Reading::rows_at))]
 fn rows_at(
     alloc: Global,
@@ -212,7 +212,7 @@ fn nums_at<'a>(
     Ok((nums, rest))
 }
 
-/// The class behind these types, without its tag.
+/// The class after these types, without its tag.
 #[tactic(auto, unfolding(crate::specs::Reading::class_at))]
 fn class_at<'a>(
     alloc: Global,
@@ -288,7 +288,7 @@ fn kind_at<'a>(types: &[TypeEntry], bytes: &'a [u8]) -> Result<(u8, &'a [u8]), F
     Ok((kind, rest))
 }
 
-/// The type with this tag behind these types.
+/// The type with this tag after these types.
 #[tactic(auto, unfolding(crate::specs::Reading::tagged_at))]
 fn tagged_at<'a>(
     alloc: Global,
@@ -316,7 +316,7 @@ fn tagged_at<'a>(
     }
 }
 
-/// The type behind these types.
+/// The type after these types.
 #[tactic(auto, unfolding(crate::specs::Reading::type_at))]
 fn type_at<'a>(
     alloc: Global,
@@ -349,7 +349,7 @@ fn listed_types(
     Ok((types, rest))
 }
 
-/// The types behind their count.
+/// The types after their count.
 #[tactic(auto, unfolding(crate::specs::Reading::types_at))]
 pub(crate) fn types_at(
     alloc: Global,

@@ -5,8 +5,8 @@ ghost use Rattle.std.specs.List.{flat_map};
 ghost use Rattle.image_instr.specs.Insn.{u2};
 ghost use Rattle.image_form.specs.declared.record.TypeEntry.{TypeEntry as Entry};
 ghost use Rattle.image_form.specs.declared.record.TypeEntry.TheVariants.{Class, RefArray};
-ghost use Rattle.image_form.specs.Format.{magic, counted, row_bytes, class_bytes, type_bytes, sig_bytes, handler_bytes, method_bytes, spelling};
-ghost use Rattle.image_form.specs.Grammar.{EachBehind, Each, IsClass, IsType, IsMethod, IsImage};
+ghost use Rattle.image_form.specs.Format.{magic, counted, row_bytes, class_bytes, type_bytes, sig_bytes, handler_bytes, method_bytes, encoding};
+ghost use Rattle.image_form.specs.Grammar.{EachAfter, Each, IsClass, IsType, IsMethod, IsImage};
 
 use crate::record::{ClassEntry, DispatchRow, HandlerEntry, Image, Method, TypeEntry};
 use image_instr::Sig;
@@ -31,7 +31,7 @@ fn append_count(count: usize, out: &mut Vec<u8>) -> Result<(), Memory>
     append_u2(count as u16, out)
 }
 
-/// Appends bytes behind their length.
+/// Appends bytes after their length.
 fn append_bytes(bytes: &[u8], out: &mut Vec<u8>) -> Result<(), Memory>
     requires { length bytes.now < 2 ^ 16 }
     ensures { OnOk result (out.new.items ≡ out.old.items ++ (u2 (length bytes.now) ++ bytes.now)) }
@@ -50,7 +50,7 @@ fn append_each_number(numbers: &[u16], out: &mut Vec<u8>) -> Result<(), Memory>
     Ok(())
 }
 
-/// Appends the numbers behind their count.
+/// Appends the numbers after their count.
 fn append_numbers(numbers: &[u16], out: &mut Vec<u8>) -> Result<(), Memory>
     requires { length numbers.now < 2 ^ 16 }
     ensures { OnOk result (out.new.items ≡ out.old.items ++ counted u2 numbers.now) }
@@ -78,7 +78,7 @@ fn append_each_row(rows: &[DispatchRow], out: &mut Vec<u8>) -> Result<(), Memory
     Ok(())
 }
 
-/// Appends the dispatch rows behind their count.
+/// Appends the dispatch rows after their count.
 fn append_rows(rows: &[DispatchRow], out: &mut Vec<u8>) -> Result<(), Memory>
     requires { length rows.now < 2 ^ 16 }
     ensures { OnOk result (out.new.items ≡ out.old.items ++ counted row_bytes rows.now) }
@@ -123,7 +123,7 @@ fn append_type(entry: &TypeEntry, out: &mut Vec<u8>) -> Result<(), Memory>
 
 /// Appends each of the types.
 fn append_each_type(types: &[TypeEntry], out: &mut Vec<u8>) -> Result<(), Memory>
-    requires { EachBehind IsType [] types.now }
+    requires { EachAfter IsType [] types.now }
     ensures { OnOk result (out.new.items ≡ out.old.items ++ flat_map type_bytes types.now) }
 {
     for entry in types {
@@ -132,10 +132,10 @@ fn append_each_type(types: &[TypeEntry], out: &mut Vec<u8>) -> Result<(), Memory
     Ok(())
 }
 
-/// Appends the types behind their count.
+/// Appends the types after their count.
 fn append_types(types: &[TypeEntry], out: &mut Vec<u8>) -> Result<(), Memory>
     requires count { length types.now < 2 ^ 16 }
-    requires each { EachBehind IsType [] types.now }
+    requires each { EachAfter IsType [] types.now }
     ensures { OnOk result (out.new.items ≡ out.old.items ++ counted type_bytes types.now) }
 {
     append_count(types.len(), out)?;
@@ -160,7 +160,7 @@ fn append_each_selector(selectors: &[Sig], out: &mut Vec<u8>) -> Result<(), Memo
     Ok(())
 }
 
-/// Appends the selectors behind their count.
+/// Appends the selectors after their count.
 fn append_selectors(selectors: &[Sig], out: &mut Vec<u8>) -> Result<(), Memory>
     requires { length selectors.now < 2 ^ 16 }
     ensures { OnOk result (out.new.items ≡ out.old.items ++ counted sig_bytes selectors.now) }
@@ -190,7 +190,7 @@ fn append_each_handler(handlers: &[HandlerEntry], out: &mut Vec<u8>) -> Result<(
     Ok(())
 }
 
-/// Appends the handlers behind their count.
+/// Appends the handlers after their count.
 fn append_handlers(handlers: &[HandlerEntry], out: &mut Vec<u8>) -> Result<(), Memory>
     requires { length handlers.now < 2 ^ 16 }
     ensures { OnOk result (out.new.items ≡ out.old.items ++ counted handler_bytes handlers.now) }
@@ -231,7 +231,7 @@ fn append_each_method(methods: &[Method], out: &mut Vec<u8>) -> Result<(), Memor
     Ok(())
 }
 
-/// Appends the methods behind their count.
+/// Appends the methods after their count.
 fn append_methods(methods: &[Method], out: &mut Vec<u8>) -> Result<(), Memory>
     requires count { length methods.now < 2 ^ 16 }
     requires each { (types : List Entry) × Each (IsMethod types) methods.now }
@@ -263,7 +263,7 @@ fn append_statics(image: &Image, out: &mut Vec<u8>) -> Result<(), Memory>
 pub fn write_image(alloc: Global, image: &Image) -> Result<Vec<u8>, Memory>
     requires { IsImage image.now }
 
-    ensures { IfOk result (λ bytes. bytes.items ≡ spelling image.now) }
+    ensures { IfOk result (λ bytes. bytes.items ≡ encoding image.now) }
 {
     let mut out = Vec::new(alloc);
     append_header(image.version, &mut out)?;

@@ -1,4 +1,4 @@
--- What is spelled is read, whatever follows.
+-- What is encoded is read, whatever follows.
 use Rattle.std.proofs.Common.{◌≡◌, ℕ, ℤ, pos, suc, ◌+◌, ◌+ℤ◌, ◌-◌, ◌*◌, ◌^◌, ◌<◌, ◌≤◌, ◌≤ℤ◌, Bool, true, false, ◌&&◌, cond, List, [], ◌∷◌, ◌++◌, length, drop, Some, None, option_map, option_and_then, refl, ap, subst, ◌∙◌, append_assoc, arith, FitsSigned, w16}
 use Rattle.std.specs.Prelude.{nat_le}
 use Rattle.std.specs.Int.Signed.{le_z}
@@ -44,11 +44,11 @@ let_through false insn size e = absurd cc
 inc_again : (width : Width) (local : ℕ) (amount : ℤ) (rest : List ℕ) → local < 2 ^ 16 → FitsSigned w16 amount → inc_in width ((index local ++ i2 amount) ++ rest) ≡ Some (Inc width local amount, suc (length (index local ++ i2 amount)))
 inc_again width local amount rest lt fits =
     let group : (index local ++ i2 amount) ++ rest ≡ index local ++ (i2 amount ++ rest) = append_assoc (index local) (i2 amount) rest in
-    let behind : drop (suc (length (index local)) - 1) (index local ++ (i2 amount ++ rest)) ≡ i2 amount ++ rest = drop_at (index local) (i2 amount ++ rest) (suc (length (index local)) - 1) (omega arith) in
+    let suffix : drop (suc (length (index local)) - 1) (index local ++ (i2 amount ++ rest)) ≡ i2 amount ++ rest = drop_at (index local) (i2 amount ++ rest) (suc (length (index local)) - 1) (omega arith) in
     let size : suc (length (index local)) + 2 ≡ suc (length (index local ++ i2 amount)) = omega (arith, length-append (index local) (i2 amount)) in
     ap (inc_in width) group
     ∙ ap (option_and_then (λ n. option_map (λ amount. (Inc width n.0 amount, n.1 + 2)) (i2_in (drop (n.1 - 1) (index local ++ (i2 amount ++ rest)))))) (index_again local (i2 amount ++ rest) lt)
-    ∙ ap (λ (r : List ℕ). option_map (λ amount. (Inc width local amount, suc (length (index local)) + 2)) (i2_in r)) behind
+    ∙ ap (λ (r : List ℕ). option_map (λ amount. (Inc width local amount, suc (length (index local)) + 2)) (i2_in r)) suffix
     ∙ ap (option_map (λ amount. (Inc width local amount, suc (length (index local)) + 2))) (i2_again amount rest fits)
     ∙ ap (some (Inc width local amount)) size
 
@@ -89,28 +89,28 @@ calli_again selector id rest lt lt2 =
 
 switch_again : (width : Width) (default count : ℕ) (rows : List SwitchRow) (rest : List ℕ) → IsInsn (Switch width default count) rows → switch_in width ((u2 default ++ (u2 count ++ flat_map row_bytes rows)) ++ rest) ≡ Some (Switch width default count, suc (length (u2 default ++ (u2 count ++ flat_map row_bytes rows))))
 switch_again width default count rows rest h =
-    let behind = flat_map row_bytes rows ++ rest in
+    let suffix = flat_map row_bytes rows ++ rest in
     let size : 5 + 6 * count ≡ suc (length (u2 default ++ (u2 count ++ flat_map row_bytes rows))) = omega (arith, size_of_rows rows, h.rows_of.0) in
-    let there : nat_le (6 * count) (length behind) ≡ true = nat_le-from _ _ (omega (arith, size_of_rows rows, h.rows_of.0, length-append (flat_map row_bytes rows) rest)) in
-    let rise : keys_rise count None behind ≡ true = subst (λ (n : ℕ). keys_rise n None behind ≡ true) h.rows_of.0 (keys_again rows None rest h.rows_of.1 h.row_ranges) in
-    ap (option_and_then (λ d. option_and_then (λ c. cond (nat_le (6 * c) (length behind) && keys_rise c None behind) (Some (Switch width d c, 5 + 6 * c)) None) (u2_in (u2 count ++ behind)))) (u2_again default (u2 count ++ behind) h.ranges.0)
-    ∙ ap (option_and_then (λ c. cond (nat_le (6 * c) (length behind) && keys_rise c None behind) (Some (Switch width default c, 5 + 6 * c)) None)) (u2_again count behind h.ranges.1)
-    ∙ let_through (nat_le (6 * count) (length behind) && keys_rise count None behind) (Switch width default count) (5 + 6 * count) (all_three true _ _ refl there rise)
+    let there : nat_le (6 * count) (length suffix) ≡ true = nat_le-from _ _ (omega (arith, size_of_rows rows, h.rows_of.0, length-append (flat_map row_bytes rows) rest)) in
+    let rise : keys_rise count None suffix ≡ true = subst (λ (n : ℕ). keys_rise n None suffix ≡ true) h.rows_of.0 (keys_again rows None rest h.rows_of.1 h.row_ranges) in
+    ap (option_and_then (λ d. option_and_then (λ c. cond (nat_le (6 * c) (length suffix) && keys_rise c None suffix) (Some (Switch width d c, 5 + 6 * c)) None) (u2_in (u2 count ++ suffix)))) (u2_again default (u2 count ++ suffix) h.ranges.0)
+    ∙ ap (option_and_then (λ c. cond (nat_le (6 * c) (length suffix) && keys_rise c None suffix) (Some (Switch width default c, 5 + 6 * c)) None)) (u2_again count suffix h.ranges.1)
+    ∙ let_through (nat_le (6 * count) (length suffix) && keys_rise count None suffix) (Switch width default count) (5 + 6 * count) (all_three true _ _ refl there rise)
     ∙ ap (some (Switch width default count)) size
 
 table_again : (width : Width) (default : ℕ) (low : ℤ) (count : ℕ) (rows : List SwitchRow) (rest : List ℕ) → IsInsn (Table width default low count) rows → table_in width ((u2 default ++ (i4 low ++ (u2 count ++ flat_map target_bytes rows))) ++ rest) ≡ Some (Table width default low count, suc (length (u2 default ++ (i4 low ++ (u2 count ++ flat_map target_bytes rows)))))
 table_again width default low count rows rest h =
-    let behind = flat_map target_bytes rows ++ rest in
+    let suffix = flat_map target_bytes rows ++ rest in
     let size : 9 + 2 * count ≡ suc (length (u2 default ++ (i4 low ++ (u2 count ++ flat_map target_bytes rows)))) = omega (arith, size_of_targets rows, h.rows_of.0) in
-    let there : nat_le (2 * count) (length behind) ≡ true = nat_le-from _ _ (omega (arith, size_of_targets rows, h.rows_of.0, length-append (flat_map target_bytes rows) rest)) in
+    let there : nat_le (2 * count) (length suffix) ≡ true = nat_le-from _ _ (omega (arith, size_of_targets rows, h.rows_of.0, length-append (flat_map target_bytes rows) rest)) in
     let last : le_z (low +ℤ pos count) (pos (2 ^ 31)) ≡ true = le_z-from _ _ h.limits.1 in
-    ap (option_and_then (λ d. option_and_then (λ l. option_and_then (λ c. cond ((nat_le 1 c && le_z (l +ℤ pos c) (pos (2 ^ 31))) && nat_le (2 * c) (length behind)) (Some (Table width d l c, 9 + 2 * c)) None) (u2_in (u2 count ++ behind))) (i4_in (i4 low ++ (u2 count ++ behind))))) (u2_again default (i4 low ++ (u2 count ++ behind)) h.ranges.0)
-    ∙ ap (option_and_then (λ l. option_and_then (λ c. cond ((nat_le 1 c && le_z (l +ℤ pos c) (pos (2 ^ 31))) && nat_le (2 * c) (length behind)) (Some (Table width default l c, 9 + 2 * c)) None) (u2_in (u2 count ++ behind)))) (i4_again low (u2 count ++ behind) h.ranges.1)
-    ∙ ap (option_and_then (λ c. cond ((nat_le 1 c && le_z (low +ℤ pos c) (pos (2 ^ 31))) && nat_le (2 * c) (length behind)) (Some (Table width default low c, 9 + 2 * c)) None)) (u2_again count behind h.ranges.2)
-    ∙ let_through ((nat_le 1 count && le_z (low +ℤ pos count) (pos (2 ^ 31))) && nat_le (2 * count) (length behind)) (Table width default low count) (9 + 2 * count) (all_three _ _ _ (nat_le-from 1 count h.limits.0) last there)
+    ap (option_and_then (λ d. option_and_then (λ l. option_and_then (λ c. cond ((nat_le 1 c && le_z (l +ℤ pos c) (pos (2 ^ 31))) && nat_le (2 * c) (length suffix)) (Some (Table width d l c, 9 + 2 * c)) None) (u2_in (u2 count ++ suffix))) (i4_in (i4 low ++ (u2 count ++ suffix))))) (u2_again default (i4 low ++ (u2 count ++ suffix)) h.ranges.0)
+    ∙ ap (option_and_then (λ l. option_and_then (λ c. cond ((nat_le 1 c && le_z (l +ℤ pos c) (pos (2 ^ 31))) && nat_le (2 * c) (length suffix)) (Some (Table width default l c, 9 + 2 * c)) None) (u2_in (u2 count ++ suffix)))) (i4_again low (u2 count ++ suffix) h.ranges.1)
+    ∙ ap (option_and_then (λ c. cond ((nat_le 1 c && le_z (low +ℤ pos c) (pos (2 ^ 31))) && nat_le (2 * c) (length suffix)) (Some (Table width default low c, 9 + 2 * c)) None)) (u2_again count suffix h.ranges.2)
+    ∙ let_through ((nat_le 1 count && le_z (low +ℤ pos count) (pos (2 ^ 31))) && nat_le (2 * count) (length suffix)) (Table width default low count) (9 + 2 * count) (all_three _ _ _ (nat_le-from 1 count h.limits.0) last there)
     ∙ ap (some (Table width default low count)) size
 
--- an instruction that is spelled is read, with its size
+-- an instruction that is encoded is read, with its size
 pub insn_at-again : (insn : MInsn) (rows : List SwitchRow) (rest : List ℕ) → IsInsn insn rows → insn_at (insn_bytes insn rows ++ rest) ≡ Some (insn, length (insn_bytes insn rows))
 unfolding insn_in constant_in local_in stack_in number_in jump_in ret_in static_in field_in array_in element_in object_in
 insn_at-again (Const1 value) rows rest h = ap (option_map (λ v. (Const1 v, 3))) (i2_again value rest h.ranges)

@@ -1,4 +1,4 @@
--- What an operand's reader took from the bytes, and that what was spelled is read.
+-- What an operand's reader took from the bytes, and that what was encoded is read.
 use Rattle.std.proofs.Common.{◌≡◌, ℕ, ℤ, suc, ◌+◌, ◌^◌, ◌<◌, ◌≤◌, Bool, true, false, cond, ltb, List, [], ◌∷◌, ◌++◌, length, get_or, take, drop, Option, Some, None, option_map, refl, sym, ap, subst, ◌∙◌, arith, rules, inl, inr, FitsSigned, Fits, w8, w16, w32}
 use Rattle.std.specs.Int.{from_be_bytes, cast_signed, cast_unsigned}
 use Rattle.std.proofs.Math.Facts.{sfits_to_z}
@@ -43,7 +43,7 @@ back_4 bytes long fits =
     let same : big_number 4 (take 4 bytes) ≡ from_be_bytes w32 (take 4 bytes) = omega arith in
     be_bytes_4 (take 4 bytes) (big_number 4 bytes) (omega (arith, length-take 4 bytes)) (IsBytes-take 4 bytes fits) (sym (big_from-take 0 4 4 bytes (omega arith)) ∙ same)
 
--- what was read: the bytes are a text and the rest behind so many bytes
+-- what was read: the bytes are a text and the rest after so many bytes
 pub record Takes (bytes text : List ℕ) (size : ℕ) : Type 0 where
   pub parts : bytes ≡ text ++ drop size bytes
   pub len : length text ≡ size

@@ -1,4 +1,4 @@
--- Each family's reader is right: the instruction that it found is spelled in the bytes.
+-- Each family's reader is right: the instruction that it found is encoded in the bytes.
 use Rattle.std.proofs.Common.{◌≡◌, ℕ, ℤ, pos, ◌+◌, ◌+ℤ◌, ◌-◌, ◌*◌, ◌^◌, ◌≤◌, ◌≤ℤ◌, true, ◌&&◌, cond, List, [], ◌∷◌, ◌++◌, length, drop, Some, None, option_map, option_and_then, refl, sym, ap, ◌∙◌, append_assoc, arith, FitsSigned, w32}
 use Rattle.std.specs.Prelude.{nat_le}
 use Rattle.std.specs.Int.Signed.{le_z}
@@ -52,11 +52,11 @@ pub inc-sound : (width : Width) (operands : List ℕ) → IsBytes operands → S
 inc-sound width operands fits =
     sound-then (inc_code width ∷ operands) (index_in operands) (λ local. option_map (λ amount. (Inc width local.0 amount, local.1 + 2)) (i2_in (drop (local.1 - 1) operands))) (λ local e.
     let t = index_takes operands local fits e in
-    let behind = drop (local.1 - 1) operands in
-    sound-map (inc_code width ∷ operands) (i2_in behind) (λ amount. (Inc width local.0 amount, local.1 + 2)) (λ amount f.
-    let a = i2_takes behind amount (IsBytes-drop (local.1 - 1) operands fits) f in
-    let parts : operands ≡ (index local.0 ++ i2 amount) ++ drop 2 behind = t.parts ∙ ap (λ (r : List ℕ). index local.0 ++ r) a.0.parts ∙ sym (append_assoc (index local.0) (i2 amount) (drop 2 behind)) in
-    found-from (inc_code width) operands (Inc width local.0 amount) [] (index local.0 ++ i2 amount) (drop 2 behind) (local.1 + 2)
+    let suffix = drop (local.1 - 1) operands in
+    sound-map (inc_code width ∷ operands) (i2_in suffix) (λ amount. (Inc width local.0 amount, local.1 + 2)) (λ amount f.
+    let a = i2_takes suffix amount (IsBytes-drop (local.1 - 1) operands fits) f in
+    let parts : operands ≡ (index local.0 ++ i2 amount) ++ drop 2 suffix = t.parts ∙ ap (λ (r : List ℕ). index local.0 ++ r) a.0.parts ∙ sym (append_assoc (index local.0) (i2 amount) (drop 2 suffix)) in
+    found-from (inc_code width) operands (Inc width local.0 amount) [] (index local.0 ++ i2 amount) (drop 2 suffix) (local.1 + 2)
     (plain (Inc width local.0 amount) (t.fits, a.1) tt refl) refl parts (omega (arith, t.size_is, length-append (index local.0) (i2 amount)))))
 
 pub rdupx-sound : (operands : List ℕ) → IsBytes operands → Sound (0x10 ∷ operands) (rdupx_in operands)
@@ -168,10 +168,10 @@ switch-sound width operands fits =
     let b = both_true (nat_le (6 * count) (length (drop 4 operands))) (keys_rise count None (drop 4 operands)) h in
     let rows = rows_in count (drop 4 operands) in
     let r = rows_take count None (drop 4 operands) (IsBytes-drop 4 operands fits) (nat_le-true (6 * count) (length (drop 4 operands)) b.0) b.1 in
-    let behind = drop (6 * count) (drop 4 operands) in
-    let parts : operands ≡ (u2 default ++ (u2 count ++ flat_map row_bytes rows)) ++ behind =
+    let suffix = drop (6 * count) (drop 4 operands) in
+    let parts : operands ≡ (u2 default ++ (u2 count ++ flat_map row_bytes rows)) ++ suffix =
     t.0.parts ∙ ap (λ (r : List ℕ). u2 default ++ r) (a.0.parts ∙ ap (λ (r : List ℕ). u2 count ++ r) (drop-drop 2 2 operands ∙ r.parts)) in
-    found-from (switch_code width) operands (Switch width default count) rows (u2 default ++ (u2 count ++ flat_map row_bytes rows)) behind (5 + 6 * count)
+    found-from (switch_code width) operands (Switch width default count) rows (u2 default ++ (u2 count ++ flat_map row_bytes rows)) suffix (5 + 6 * count)
     (record { ranges = (t.1, a.1); limits = tt; rows_of = (r.count_is, r.rise); row_ranges = r.ranges }) refl parts (omega (arith, r.size_is)))))
 
 pub table-sound : (width : Width) (operands : List ℕ) → IsBytes operands → Sound (table_code width ∷ operands) (table_in width operands)
@@ -189,8 +189,8 @@ table-sound width operands fits =
     let to : (low +ℤ pos count) ≤ℤ pos (2 ^ 31) = le_z-true (low +ℤ pos count) (pos (2 ^ 31)) d.1 in
     let rows = targets_in low count (drop 8 operands) in
     let r = targets_take count low (drop 8 operands) (IsBytes-drop 8 operands fits) (nat_le-true (2 * count) (length (drop 8 operands)) b.1) from to in
-    let behind = drop (2 * count) (drop 8 operands) in
-    let parts : operands ≡ (u2 default ++ (i4 low ++ (u2 count ++ flat_map target_bytes rows))) ++ behind =
+    let suffix = drop (2 * count) (drop 8 operands) in
+    let parts : operands ≡ (u2 default ++ (i4 low ++ (u2 count ++ flat_map target_bytes rows))) ++ suffix =
     t.0.parts ∙ ap (λ (r : List ℕ). u2 default ++ r) (k.0.parts ∙ ap (λ (r : List ℕ). i4 low ++ r) (drop-drop 4 2 operands ∙ (a.0.parts ∙ ap (λ (r : List ℕ). u2 count ++ r) (drop-drop 2 6 operands ∙ r.parts)))) in
-    found-from (table_code width) operands (Table width default low count) rows (u2 default ++ (i4 low ++ (u2 count ++ flat_map target_bytes rows))) behind (9 + 2 * count)
+    found-from (table_code width) operands (Table width default low count) rows (u2 default ++ (i4 low ++ (u2 count ++ flat_map target_bytes rows))) suffix (9 + 2 * count)
     (record { ranges = (t.1, k.1, a.1); limits = (nat_le-true 1 count d.0, to); rows_of = (r.count_is, r.follow); row_ranges = r.ranges }) refl parts (omega (arith, r.size_is))))))

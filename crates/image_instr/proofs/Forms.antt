@@ -9,7 +9,7 @@ use Rattle.image_instr.specs.Insn.{u2, i1, i2, i4, index, halves, insn_bytes, Ha
 use Rattle.image_instr.specs.Reading.{Found, u2_in, i1_in, i2_in, i4_in, index_in, halves_in}
 use Rattle.image_instr.proofs.Bytes.{IsBytes, IsBytes-rest, Takes, u2_takes, i1_takes, i2_takes, i4_takes, u2_again}
 
--- the instruction of this size is spelled at the front, with some rows
+-- the instruction of this size is encoded at the prefix, with some rows
 pub record IsFound (bytes : List ℕ) (insn : MInsn) (size : ℕ) : Type 0 where
   pub rows : List SwitchRow
   pub rest : List ℕ
@@ -17,7 +17,7 @@ pub record IsFound (bytes : List ℕ) (insn : MInsn) (size : ℕ) : Type 0 where
   pub size_is : size ≡ length (insn_bytes insn rows)
   pub parts : bytes ≡ insn_bytes insn rows ++ rest
 
--- an answer is right: what it found is spelled there
+-- an answer is right: what it found is encoded there
 abbrev pub Sound : List ℕ → Found → Type 0
 Sound bytes None = Unit {0}
 Sound bytes (Some found) = IsFound bytes found.0 found.1
@@ -68,45 +68,45 @@ pub plain : (insn : MInsn) → HasRanges insn → KeepsLimits insn → AreRowsOf
 plain insn ranges limits rows_of = record { ranges = ranges; limits = limits; rows_of = rows_of; row_ranges = tt }
 
 pub found-from : (opcode : ℕ) (operands : List ℕ) (insn : MInsn) (rows : List SwitchRow) (text rest : List ℕ) (size : ℕ) → IsInsn insn rows → insn_bytes insn rows ≡ opcode ∷ text → operands ≡ text ++ rest → size ≡ suc (length text) → IsFound (opcode ∷ operands) insn size
-found-from opcode operands insn rows text rest size is spelled parts long =
+found-from opcode operands insn rows text rest size is encoded parts long =
     record {
       rows = rows;
       rest = rest;
       is_insn = is;
-      size_is = long ∙ ap length (sym spelled);
-      parts = ap (λ (t : List ℕ). opcode ∷ t) parts ∙ ap (λ (t : List ℕ). t ++ rest) (sym spelled);
+      size_is = long ∙ ap length (sym encoded);
+      parts = ap (λ (t : List ℕ). opcode ∷ t) parts ∙ ap (λ (t : List ℕ). t ++ rest) (sym encoded);
     }
 
 pub bare-form : (opcode : ℕ) (operands : List ℕ) (insn : MInsn) → IsInsn insn [] → insn_bytes insn [] ≡ opcode ∷ [] → Sound (opcode ∷ operands) (Some (insn, 1))
-bare-form opcode operands insn is spelled = found-from opcode operands insn [] [] operands 1 is spelled refl refl
+bare-form opcode operands insn is encoded = found-from opcode operands insn [] [] operands 1 is encoded refl refl
 
 pub u2-form : (opcode : ℕ) (operands : List ℕ) (make : ℕ → MInsn) → IsBytes operands → ((v : ℕ) → v < 2 ^ 16 → IsInsn (make v) []) → ((v : ℕ) → insn_bytes (make v) [] ≡ opcode ∷ u2 v) → Sound (opcode ∷ operands) (option_map (λ v. (make v, 3)) (u2_in operands))
-u2-form opcode operands make fits is spelled =
+u2-form opcode operands make fits is encoded =
     sound-map (opcode ∷ operands) (u2_in operands) (λ v. (make v, 3)) (λ v e.
     let t = u2_takes operands v fits e in
-    found-from opcode operands (make v) [] (u2 v) (drop 2 operands) 3 (is v t.1) (spelled v) t.0.parts refl)
+    found-from opcode operands (make v) [] (u2 v) (drop 2 operands) 3 (is v t.1) (encoded v) t.0.parts refl)
 
 pub i1-form : (opcode : ℕ) (operands : List ℕ) (make : ℤ → MInsn) → IsBytes operands → ((v : ℤ) → FitsSigned w8 v → IsInsn (make v) []) → ((v : ℤ) → insn_bytes (make v) [] ≡ opcode ∷ i1 v) → Sound (opcode ∷ operands) (option_map (λ v. (make v, 2)) (i1_in operands))
-i1-form opcode operands make fits is spelled =
+i1-form opcode operands make fits is encoded =
     sound-map (opcode ∷ operands) (i1_in operands) (λ v. (make v, 2)) (λ v e.
     let t = i1_takes operands v fits e in
-    found-from opcode operands (make v) [] (i1 v) (drop 1 operands) 2 (is v t.1) (spelled v) t.0.parts refl)
+    found-from opcode operands (make v) [] (i1 v) (drop 1 operands) 2 (is v t.1) (encoded v) t.0.parts refl)
 
 pub i2-form : (opcode : ℕ) (operands : List ℕ) (make : ℤ → MInsn) → IsBytes operands → ((v : ℤ) → FitsSigned w16 v → IsInsn (make v) []) → ((v : ℤ) → insn_bytes (make v) [] ≡ opcode ∷ i2 v) → Sound (opcode ∷ operands) (option_map (λ v. (make v, 3)) (i2_in operands))
-i2-form opcode operands make fits is spelled =
+i2-form opcode operands make fits is encoded =
     sound-map (opcode ∷ operands) (i2_in operands) (λ v. (make v, 3)) (λ v e.
     let t = i2_takes operands v fits e in
-    found-from opcode operands (make v) [] (i2 v) (drop 2 operands) 3 (is v t.1) (spelled v) t.0.parts refl)
+    found-from opcode operands (make v) [] (i2 v) (drop 2 operands) 3 (is v t.1) (encoded v) t.0.parts refl)
 
 pub i4-form : (opcode : ℕ) (operands : List ℕ) (make : ℤ → MInsn) → IsBytes operands → ((v : ℤ) → FitsSigned w32 v → IsInsn (make v) []) → ((v : ℤ) → insn_bytes (make v) [] ≡ opcode ∷ i4 v) → Sound (opcode ∷ operands) (option_map (λ v. (make v, 5)) (i4_in operands))
-i4-form opcode operands make fits is spelled =
+i4-form opcode operands make fits is encoded =
     sound-map (opcode ∷ operands) (i4_in operands) (λ v. (make v, 5)) (λ v e.
     let t = i4_takes operands v fits e in
-    found-from opcode operands (make v) [] (i4 v) (drop 4 operands) 5 (is v t.1) (spelled v) t.0.parts refl)
+    found-from opcode operands (make v) [] (i4 v) (drop 4 operands) 5 (is v t.1) (encoded v) t.0.parts refl)
 
 -- ---- indexes
 
--- what an index took, with its size counted behind a first byte
+-- what an index took, with its size counted after a first byte
 pub record TakesIndex (bytes : List ℕ) (n size : ℕ) : Type 0 where
   pub parts : bytes ≡ index n ++ drop (size - 1) bytes
   pub size_is : size ≡ suc (length (index n))
@@ -129,10 +129,10 @@ some_pair n size = Some (n, size)
 
 short_index : (byte : ℕ) (bytes : List ℕ) → IsBytes (byte ∷ bytes) → ltb byte 255 ≡ true → TakesIndex (byte ∷ bytes) byte 2
 short_index byte bytes fits short =
-    let spelled : index byte ≡ byte ∷ [] = rw short refl in
+    let encoded : index byte ≡ byte ∷ [] = rw short refl in
     record {
-      parts = ap (λ (t : List ℕ). t ++ bytes) (sym spelled);
-      size_is = ap (λ (t : List ℕ). suc (length t)) (sym spelled);
+      parts = ap (λ (t : List ℕ). t ++ bytes) (sym encoded);
+      size_is = ap (λ (t : List ℕ). suc (length t)) (sym encoded);
       fits = omega (arith, fits 0);
     }
 
@@ -141,10 +141,10 @@ long_index byte bytes n fits long read above =
     let t = u2_takes bytes n (IsBytes-rest byte bytes fits) read in
     let top : byte ≡ 255 = omega (arith, fits 0, ltb-false byte 255 long) in
     let far : ltb n 255 ≡ false = le-ltb n 255 (nat_le-true 255 n above) in
-    let spelled : index n ≡ 255 ∷ u2 n = rw far refl in
+    let encoded : index n ≡ 255 ∷ u2 n = rw far refl in
     record {
-      parts = ap (λ (b : ℕ). b ∷ bytes) top ∙ ap (λ (t : List ℕ). 255 ∷ t) t.0.parts ∙ ap (λ (t : List ℕ). t ++ drop 2 bytes) (sym spelled);
-      size_is = ap (λ (t : List ℕ). suc (length t)) (sym spelled);
+      parts = ap (λ (b : ℕ). b ∷ bytes) top ∙ ap (λ (t : List ℕ). 255 ∷ t) t.0.parts ∙ ap (λ (t : List ℕ). t ++ drop 2 bytes) (sym encoded);
+      size_is = ap (λ (t : List ℕ). suc (length t)) (sym encoded);
       fits = t.1;
     }
 
@@ -162,10 +162,10 @@ index_takes (byte ∷ bytes) found fits e =
     ]
 
 pub index-form : (opcode : ℕ) (operands : List ℕ) (make : ℕ → MInsn) → IsBytes operands → ((v : ℕ) → v < 2 ^ 16 → IsInsn (make v) []) → ((v : ℕ) → insn_bytes (make v) [] ≡ opcode ∷ index v) → Sound (opcode ∷ operands) (option_map (λ n. (make n.0, n.1)) (index_in operands))
-index-form opcode operands make fits is spelled =
+index-form opcode operands make fits is encoded =
     sound-map (opcode ∷ operands) (index_in operands) (λ n. (make n.0, n.1)) (λ n e.
     let t = index_takes operands n fits e in
-    found-from opcode operands (make n.0) [] (index n.0) (drop (n.1 - 1) operands) n.1 (is n.0 t.fits) (spelled n.0) t.parts t.size_is)
+    found-from opcode operands (make n.0) [] (index n.0) (drop (n.1 - 1) operands) n.1 (is n.0 t.fits) (encoded n.0) t.parts t.size_is)
 
 pub index_again : (n : ℕ) (rest : List ℕ) → n < 2 ^ 16 → index_in (index n ++ rest) ≡ Some (n, suc (length (index n)))
 index_again n rest lt =

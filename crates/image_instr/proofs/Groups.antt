@@ -1,4 +1,4 @@
--- The reader is right, group by group of first bytes: the instruction that it found is spelled in the bytes.
+-- The reader is right, group by group of first bytes: the instruction that it found is encoded in the bytes.
 use Rattle.std.proofs.Common.{◌≡◌, ℕ, ◌+◌, ◌-◌, ◌≤◌, List, [], ◌∷◌, Some, None, refl, ap, ◌∙◌, arith, subst}
 use Rattle.image_instr.specs.declared.insn.Kind.TheVariants as kind
 use Rattle.image_instr.specs.declared.insn.Width.{Width}
@@ -185,7 +185,7 @@ insn_in-sound opcode operands fits =
     (up_to opcode operands 0xaf _ _ (element-sound opcode operands fits)
     (object-sound opcode operands fits))))))))))
 
--- what is found at the front of the bytes is spelled there
+-- what is found at the prefix of the bytes is encoded there
 pub insn_at-sound : (bytes : List ℕ) → IsBytes bytes → Sound bytes (insn_at bytes)
 insn_at-sound [] fits = tt
 insn_at-sound (opcode ∷ operands) fits = insn_in-sound opcode operands (IsBytes-rest opcode operands fits)

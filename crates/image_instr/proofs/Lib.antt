@@ -7,6 +7,6 @@ pub mod Groups
 pub mod Again
 pub mod Decode
 pub mod Targets
-pub mod SwitchFront
-pub mod OneSpelling
+pub mod SwitchPrefix
+pub mod EncodingIsInjective
 pub mod Written

@@ -2,7 +2,7 @@
 use Rattle.std.proofs.Common.{◌≡◌, ℕ, ℤ, suc, ◌+◌, ◌-◌, ◌<◌, ◌≤◌, true, false, ◌&&◌, List, drop, Option, Some, ap, ◌∙◌, arith}
 use Rattle.image_instr.specs.Reading.{keys_rise, key_in, is_above}
 
--- with rows left, the first one and those behind it decide
+-- with rows left, the first one and those after it decide
 pub keys_rise-more : (count counter : ℕ) (before : Option ℤ) (rest : List ℕ) → counter < count → keys_rise (count - counter) before rest ≡ (is_above before (key_in rest) && keys_rise (count - (counter + 1)) (Some (key_in rest)) (drop 6 rest))
 unfolding keys_rise
 keys_rise-more count counter before rest more =
@@ -21,7 +21,7 @@ pub keys_rise-falls : (count counter : ℕ) (before : Option ℤ) (rest : List �
 keys_rise-falls count counter before rest more falls =
     keys_rise-more count counter before rest more ∙ ap (λ test. test && keys_rise (count - (counter + 1)) (Some (key_in rest)) (drop 6 rest)) falls
 
--- a first row that is above leaves it to the rows behind
+-- a first row that is above leaves it to the rows after
 pub keys_rise-goes_on : (count counter : ℕ) (before : Option ℤ) (rest : List ℕ) → counter < count → is_above before (key_in rest) ≡ true → keys_rise (count - counter) before rest ≡ keys_rise (count - (counter + 1)) (Some (key_in rest)) (drop 6 rest)
 keys_rise-goes_on count counter before rest more above =
     keys_rise-more count counter before rest more ∙ ap (λ test. test && keys_rise (count - (counter + 1)) (Some (key_in rest)) (drop 6 rest)) above

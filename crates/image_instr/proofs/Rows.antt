@@ -43,13 +43,13 @@ pub record TakesRows (before : Option ℤ) (count : ℕ) (bytes : List ℕ) (row
   pub parts : bytes ≡ flat_map row_bytes rows ++ drop (6 * count) bytes
   pub size_is : length (flat_map row_bytes rows) ≡ 6 * count
 
--- a row in front
+-- a row in prefix
 row_before : (before : Option ℤ) (count : ℕ) (bytes : List ℕ) (row : SwitchRow) (rows : List SwitchRow) → IsAbove before row.key → HasRowRanges row → bytes ≡ row_bytes row ++ drop 6 bytes → TakesRows (Some row.key) count (drop 6 bytes) rows → TakesRows before (suc count) bytes (row ∷ rows)
-row_before before count bytes row rows above ranges front t =
+row_before before count bytes row rows above ranges prefix t =
     let all : flat_map row_bytes (row ∷ rows) ≡ row_bytes row ++ flat_map row_bytes rows = flat_map-cons row_bytes row rows in
     let rest : drop (6 * count) (drop 6 bytes) ≡ drop (6 * suc count) bytes = drop-drop (6 * count) 6 bytes ∙ ap (λ (n : ℕ). drop n bytes) (omega arith) in
     let parts : bytes ≡ (row_bytes row ++ flat_map row_bytes rows) ++ drop (6 * suc count) bytes =
-    front ∙ ap (λ (t : List ℕ). row_bytes row ++ t) (t.parts ∙ ap (λ (r : List ℕ). flat_map row_bytes rows ++ r) rest)
+    prefix ∙ ap (λ (t : List ℕ). row_bytes row ++ t) (t.parts ∙ ap (λ (r : List ℕ). flat_map row_bytes rows ++ r) rest)
     ∙ sym (append_assoc (row_bytes row) (flat_map row_bytes rows) (drop (6 * suc count) bytes)) in
     record {
       rise = (above, t.rise);
@@ -59,8 +59,8 @@ row_before before count bytes row rows above ranges front t =
       size_is = ap length all ∙ omega (arith, t.size_is);
     }
 
-row_front : (bytes : List ℕ) → IsBytes bytes → 6 ≤ length bytes → (bytes ≡ (i4 (key_in bytes) ++ u2 (big_number 2 (drop 4 bytes))) ++ drop 6 bytes) × FitsSigned w32 (key_in bytes) × (big_number 2 (drop 4 bytes) < 2 ^ 16)
-row_front bytes fits long =
+row_prefix : (bytes : List ℕ) → IsBytes bytes → 6 ≤ length bytes → (bytes ≡ (i4 (key_in bytes) ++ u2 (big_number 2 (drop 4 bytes))) ++ drop 6 bytes) × FitsSigned w32 (key_in bytes) × (big_number 2 (drop 4 bytes) < 2 ^ 16)
+row_prefix bytes fits long =
     let key = i4_takes bytes (key_in bytes) fits (i4_there bytes (omega arith)) in
     let target = u2_takes (drop 4 bytes) (big_number 2 (drop 4 bytes)) (IsBytes-drop 4 bytes fits) (u2_there (drop 4 bytes) (omega (arith, length-drop 4 bytes))) in (
       key.0.parts ∙ ap (λ (t : List ℕ). i4 (key_in bytes) ++ t) (target.0.parts ∙ ap (λ (t : List ℕ). u2 (big_number 2 (drop 4 bytes)) ++ t) (drop-drop 2 4 bytes))
@@ -74,11 +74,11 @@ unfolding keys_rise rows_in
 rows_take zero before bytes fits long rise = record { rise = tt; count_is = refl; ranges = tt; parts = refl; size_is = refl }
 rows_take (suc count) before bytes fits long rise =
     let tests = both_true (is_above before (key_in bytes)) (keys_rise count (Some (key_in bytes)) (drop 6 bytes)) rise in
-    let front = row_front bytes fits (omega arith) in
-    row_before before count bytes (record { key = key_in bytes; target = big_number 2 (drop 4 bytes) }) (rows_in count (drop 6 bytes)) (above_from before (key_in bytes) tests.0) (front.1, front.2) front.0
+    let prefix = row_prefix bytes fits (omega arith) in
+    row_before before count bytes (record { key = key_in bytes; target = big_number 2 (drop 4 bytes) }) (rows_in count (drop 6 bytes)) (above_from before (key_in bytes) tests.0) (prefix.1, prefix.2) prefix.0
     (rows_take count (Some (key_in bytes)) (drop 6 bytes) (IsBytes-drop 6 bytes fits) (omega (arith, length-drop 6 bytes)) tests.1)
 
--- a row that was spelled is read
+-- a row that was encoded is read
 key_again : (row : SwitchRow) (rest : List ℕ) → FitsSigned w32 row.key → key_in (row_bytes row ++ rest) ≡ row.key
 key_again row rest fits =
     let below : cast_unsigned w32 row.key < 2 ^ 32 = omega (arith, ints) in
@@ -87,8 +87,8 @@ key_again row rest fits =
 target_again : (row : SwitchRow) (rest : List ℕ) → row.target < 2 ^ 16 → big_number 2 (drop 4 (row_bytes row ++ rest)) ≡ row.target
 target_again row rest lt = big_number-reads_back 2 row.target rest lt
 
-front_again : (row : SwitchRow) (rows : List SwitchRow) (rest : List ℕ) → flat_map row_bytes (row ∷ rows) ++ rest ≡ row_bytes row ++ (flat_map row_bytes rows ++ rest)
-front_again row rows rest =
+prefix_again : (row : SwitchRow) (rows : List SwitchRow) (rest : List ℕ) → flat_map row_bytes (row ∷ rows) ++ rest ≡ row_bytes row ++ (flat_map row_bytes rows ++ rest)
+prefix_again row rows rest =
     ap (λ (t : List ℕ). t ++ rest) (flat_map-cons row_bytes row rows) ∙ append_assoc (row_bytes row) (flat_map row_bytes rows) rest
 
 pub keys_again : (rows : List SwitchRow) (before : Option ℤ) (rest : List ℕ) → KeysRise before rows → AllByRecursion HasRowRanges rows → keys_rise (length rows) before (flat_map row_bytes rows ++ rest) ≡ true
@@ -96,7 +96,7 @@ unfolding keys_rise
 keys_again [] before rest rise ranges = refl
 keys_again (row ∷ rows) before rest rise ranges =
     let key = key_again row (flat_map row_bytes rows ++ rest) ranges.0.0 in
-    ap (keys_rise (suc (length rows)) before) (front_again row rows rest)
+    ap (keys_rise (suc (length rows)) before) (prefix_again row rows rest)
     ∙ ap (λ (k : ℤ). is_above before k && keys_rise (length rows) (Some k) (flat_map row_bytes rows ++ rest)) key
     ∙ ap (λ (b : Bool). b && keys_rise (length rows) (Some row.key) (flat_map row_bytes rows ++ rest)) (above_to before row.key rise.0)
     ∙ keys_again rows (Some row.key) rest rise.1 ranges.1
@@ -114,7 +114,7 @@ rows_again (row ∷ rows) rest ranges =
     let key = key_again row (flat_map row_bytes rows ++ rest) ranges.0.0 in
     let target = target_again row (flat_map row_bytes rows ++ rest) ranges.0.1 in
     let others = rows_again rows rest ranges.1 in
-    ap (rows_in (suc (length rows))) (front_again row rows rest) ∙ same_rows _ _ _ row.key row.target rows key target others
+    ap (rows_in (suc (length rows))) (prefix_again row rows rest) ∙ same_rows _ _ _ row.key row.target rows key target others
 
 pub size_of_rows : (rows : List SwitchRow) → length (flat_map row_bytes rows) ≡ 6 * length rows
 size_of_rows [] = refl
@@ -130,11 +130,11 @@ pub record TakesTargets (low : ℤ) (count : ℕ) (bytes : List ℕ) (rows : Lis
   pub size_is : length (flat_map target_bytes rows) ≡ 2 * count
 
 target_before : (low : ℤ) (count : ℕ) (bytes : List ℕ) (target : ℕ) (rows : List SwitchRow) → FitsSigned w32 low → target < 2 ^ 16 → bytes ≡ u2 target ++ drop 2 bytes → TakesTargets (low +ℤ pos 1) count (drop 2 bytes) rows → TakesTargets low (suc count) bytes (record { key = low; target = target } ∷ rows)
-target_before low count bytes target rows key lt front t =
+target_before low count bytes target rows key lt prefix t =
     let all : flat_map target_bytes (record { key = low; target = target } ∷ rows) ≡ u2 target ++ flat_map target_bytes rows = flat_map-cons target_bytes (record { key = low; target = target }) rows in
     let rest : drop (2 * count) (drop 2 bytes) ≡ drop (2 * suc count) bytes = drop-drop (2 * count) 2 bytes ∙ ap (λ (n : ℕ). drop n bytes) (omega arith) in
     let parts : bytes ≡ (u2 target ++ flat_map target_bytes rows) ++ drop (2 * suc count) bytes =
-    front ∙ ap (λ (t : List ℕ). u2 target ++ t) (t.parts ∙ ap (λ (r : List ℕ). flat_map target_bytes rows ++ r) rest)
+    prefix ∙ ap (λ (t : List ℕ). u2 target ++ t) (t.parts ∙ ap (λ (r : List ℕ). flat_map target_bytes rows ++ r) rest)
     ∙ sym (append_assoc (u2 target) (flat_map target_bytes rows) (drop (2 * suc count) bytes)) in
     record {
       follow = (refl, t.follow);
@@ -163,6 +163,6 @@ pub targets_again : (rows : List SwitchRow) (low : ℤ) (rest : List ℕ) → Ke
 unfolding targets_in
 targets_again [] low rest follow ranges = refl
 targets_again (row ∷ rows) low rest follow ranges =
-    let front : flat_map target_bytes (row ∷ rows) ++ rest ≡ u2 row.target ++ (flat_map target_bytes rows ++ rest) = ap (λ (t : List ℕ). t ++ rest) (flat_map-cons target_bytes row rows) ∙ append_assoc (u2 row.target) (flat_map target_bytes rows) rest in
+    let prefix : flat_map target_bytes (row ∷ rows) ++ rest ≡ u2 row.target ++ (flat_map target_bytes rows ++ rest) = ap (λ (t : List ℕ). t ++ rest) (flat_map-cons target_bytes row rows) ∙ append_assoc (u2 row.target) (flat_map target_bytes rows) rest in
     let target : big_number 2 (u2 row.target ++ (flat_map target_bytes rows ++ rest)) ≡ row.target = big_number-reads_back 2 row.target (flat_map target_bytes rows ++ rest) ranges.0.1 in
-    ap (targets_in low (suc (length rows))) front ∙ same_rows low _ _ row.key row.target rows (sym follow.0) target (targets_again rows (low +ℤ pos 1) rest follow.1 ranges.1)
+    ap (targets_in low (suc (length rows))) prefix ∙ same_rows low _ _ row.key row.target rows (sym follow.0) target (targets_again rows (low +ℤ pos 1) rest follow.1 ranges.1)

@@ -14,7 +14,7 @@ not_true false h = refl
 
 -- ---- rows
 
--- with rows left, the first one and those behind it give the target
+-- with rows left, the first one and those after it give the target
 rows-more : (default count counter : ℕ) (rest : List ℕ) (key : ℤ) → counter < count → target_in default (rows_in (count - counter) rest) key ≡ cond (int_eq (key_in rest) key) (big_number 2 (drop 4 rest)) (target_in default (rows_in (count - (counter + 1)) (drop 6 rest)) key)
 unfolding rows_in
 rows-more default count counter rest key more =
@@ -25,8 +25,8 @@ pub rows-here : (default count counter : ℕ) (rest : List ℕ) (key : ℤ) → 
 rows-here default count counter rest key more here =
     rows-more default count counter rest key more ∙ ap (λ (b : Bool). cond b (big_number 2 (drop 4 rest)) (target_in default (rows_in (count - (counter + 1)) (drop 6 rest)) key)) here
 
-pub rows-behind : (default count counter : ℕ) (rest : List ℕ) (key : ℤ) → counter < count → int_eq (key_in rest) key ≡ false → target_in default (rows_in (count - counter) rest) key ≡ target_in default (rows_in (count - (counter + 1)) (drop 6 rest)) key
-rows-behind default count counter rest key more other =
+pub rows-after : (default count counter : ℕ) (rest : List ℕ) (key : ℤ) → counter < count → int_eq (key_in rest) key ≡ false → target_in default (rows_in (count - counter) rest) key ≡ target_in default (rows_in (count - (counter + 1)) (drop 6 rest)) key
+rows-after default count counter rest key more other =
     rows-more default count counter rest key more ∙ ap (λ (b : Bool). cond b (big_number 2 (drop 4 rest)) (target_in default (rows_in (count - (counter + 1)) (drop 6 rest)) key)) other
 
 pub rows-none : (default count counter : ℕ) (rest : List ℕ) (key : ℤ) → count ≤ counter → target_in default (rows_in (count - counter) rest) key ≡ default

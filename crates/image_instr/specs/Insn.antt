@@ -228,7 +228,7 @@ abbrev pub KeysRise : Option ℤ → List SwitchRow → Type 0
 KeysRise before [] = Unit {0}
 KeysRise before (row ∷ rows) = IsAbove before row.key × KeysRise (Some row.key) rows
 
--- the keys are the low one and those behind it, one by one
+-- the keys are the low one and those after it, one by one
 abbrev pub KeysFollow : ℤ → List SwitchRow → Type 0
 KeysFollow low [] = Unit {0}
 KeysFollow low (row ∷ rows) = (row.key ≡ low) × KeysFollow (low +ℤ pos 1) rows
@@ -292,12 +292,12 @@ pub record IsInsn (insn : MInsn) (rows : List SwitchRow) : Type 0 where
   pub rows_of : AreRowsOf insn rows
   pub row_ranges : AllByRecursion HasRowRanges rows
 
--- the instruction with these rows stands at the front of the bytes, and has so many of them
-pub record IsAtFront (insn : MInsn) (rows : List SwitchRow) (size : ℕ) (bytes : List ℕ) : Type 0 where
+-- the instruction with these rows is at the prefix of the bytes, and has so many of them
+pub record IsAtPrefix (insn : MInsn) (rows : List SwitchRow) (size : ℕ) (bytes : List ℕ) : Type 0 where
   pub is_insn : IsInsn insn rows
   pub size_is : size ≡ length (insn_bytes insn rows)
   pub bytes_are : take size bytes ≡ insn_bytes insn rows
 
--- it stands at a place of the code
-abbrev pub StandsAt : List ℕ → ℕ → MInsn → List SwitchRow → ℕ → Type 0
-StandsAt code pc insn rows size = IsAtFront insn rows size (drop pc code)
+-- it is at a place of the code
+abbrev pub HoldsAt : List ℕ → ℕ → MInsn → List SwitchRow → ℕ → Type 0
+HoldsAt code pc insn rows size = IsAtPrefix insn rows size (drop pc code)

@@ -1,4 +1,4 @@
--- Reading as a function on lists: the instruction at the front of the bytes, and how many bytes it has.
+-- Reading as a function on lists: the instruction at the prefix of the bytes, and how many bytes it has.
 use Rattle.std.specs.Prelude.{ℕ, ℤ, pos, zero, suc, ◌+◌, ◌+ℤ◌, ◌-◌, ◌*◌, ◌/◌, ◌%◌, ◌^◌, Bool, true, ◌&&◌, ◌==◌, nat_lt, nat_le, if◌then◌else◌, List, [], ◌∷◌, length, drop, slice_get, Option, Some, None, option_map, option_and_then}
 use Rattle.std.specs.Int.{w8, w16, w32, cast_signed}
 use Rattle.std.specs.Int.Signed.{lt_z, le_z}
@@ -125,7 +125,7 @@ rj_in test operands = option_map (λ target. (RJ test target, 3)) (u2_in operand
 
 -- ---- the rows of a switch
 
--- the key of the row at the front
+-- the key of the row at the prefix
 abbrev pub key_in : List ℕ → ℤ
 key_in bytes = cast_signed w32 (big_number 4 bytes)
 
@@ -332,12 +332,12 @@ insn_in opcode operands =
     else (if nat_le opcode 0xaf then element_in opcode
     else object_in opcode operands)))))))))
 
--- the instruction at the front of the bytes, and how many bytes it has
+-- the instruction at the prefix of the bytes, and how many bytes it has
 abbrev pub insn_at : List ℕ → Found
 insn_at [] = None
 insn_at (opcode ∷ operands) = insn_in opcode operands
 
--- the rows of the instruction at the front of the bytes: a switch has them, and no other
+-- the rows of the instruction at the prefix of the bytes: a switch has them, and no other
 abbrev pub rows_at : MInsn → List ℕ → List SwitchRow
 rows_at (Switch width default count) bytes = rows_in count (drop 5 bytes)
 rows_at (Table width default low count) bytes = targets_in low count (drop 9 bytes)

@@ -12,11 +12,11 @@ is_switch (Switch width default count) = true
 is_switch (Table width default low count) = true
 is_switch _ = false
 
--- a switch or a table stands at the front of the bytes
+-- a switch or a table is at the prefix of the bytes
 abbrev pub IsSwitchFirst : List ℕ → Type 0
 IsSwitchFirst bytes = IsSomeAnd (insn_at bytes) (λ found. IsTrue (is_switch found.0))
 
--- a switch or a table stands at the place
+-- a switch or a table is at the place
 abbrev pub IsSwitchAt : List ℕ → ℕ → Type 0
 IsSwitchAt code pc = IsSwitchFirst (drop pc code)
 

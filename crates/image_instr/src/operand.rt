@@ -1,4 +1,4 @@
-//! The operands at the front of the bytes behind an opcode.
+//! The operands at the prefix of the bytes after an opcode.
 
 ghost use Rattle.std.specs.Prelude.{◌≡◌, ◌≤◌, ◌+◌, length, OnSome, IfSome};
 ghost use Rattle.image_instr.specs.Reading.{u1_in, u2_in, u4_in, i1_in, i2_in, i4_in, index_in, halves_in};

@@ -1,9 +1,9 @@
-//! The instruction that stands at a place of the code, family by family.
+//! The instruction that is at a place of the code, family by family.
 
 ghost use Rattle.std.specs.Prelude.{◌≡◌, ℕ, Some, List, drop, IfSome, IfNone};
 ghost use Rattle.image_instr.specs.Reading.{insn_at, rows_at, insn_in, constant_in, local_in, stack_in, number_in, jump_in, ret_in, static_in, field_in, array_in, element_in, object_in, load_in, store_in, rclear_in, inc_in, rdupx_in, dupx_in, rpop_in, pop_in, swap_in, drop_in, operation_of as operation_of_code, condition_of as condition_of_code, jz_in, jcmp_in, rj_in, get_static_in, put_static_in, get_field_in, put_field_in, multi_in, calli_in, bin_of, new_array_in};
 ghost use Rattle.image_instr.specs.declared.insn.MInsn.TheVariants.{ALoad, AStore};
-ghost use Rattle.image_instr.specs.Insn.{StandsAt};
+ghost use Rattle.image_instr.specs.Insn.{HoldsAt};
 ghost use Rattle.image_instr.specs.declared.insn.SwitchRow.{SwitchRow};
 ghost use Rattle.image_instr.specs.declared.insn.MInsn.{MInsn};
 
@@ -438,38 +438,38 @@ fn insn(opcode: u8, operands: &[u8]) -> Option<(MInsn, usize)>
     }
 }
 
-/// The instruction at the front of the bytes.
-fn front(bytes: &[u8]) -> Option<(MInsn, usize)>
+/// The instruction at the prefix of the bytes.
+fn prefix(bytes: &[u8]) -> Option<(MInsn, usize)>
     ensures { result ≡ insn_at bytes.now }
 {
     let (opcode, operands) = bytes.split_first()?;
     insn(*opcode, operands)
 }
 
-/// The instruction at the front of what stands from a place on.
+/// The instruction at the prefix of what stands from a place on.
 fn found_at(code: &[u8], pc: usize) -> Option<(MInsn, usize)>
     ensures { result ≡ insn_at (drop pc code.now) }
 {
     if code.len() < pc {
         return None;
     }
-    front(&code[pc..])
+    prefix(&code[pc..])
 }
 
-/// The instruction that stands at a place of the code, and its size: how many bytes it has, its rows
-/// among them. The next instruction stands behind so many bytes. None where no instruction stands,
+/// The instruction that is at a place of the code, and its size: how many bytes it has, its rows
+/// among them. The next instruction follows so many bytes. None where no instruction stands,
 /// and where the place is not in the code.
 pub fn decode_at(code: &[u8], pc: usize) -> Option<(MInsn, usize)>
-    // What is found is spelled there, with its rows.
+    // What is found is encoded there, with its rows.
     ensures found { let bytes = drop pc code.now in
-        IfSome result (λ found. StandsAt code.now pc found.0 (rows_at found.0 bytes) found.1) }
-    // What is spelled there is found, and its rows are the only ones.
+        IfSome result (λ found. HoldsAt code.now pc found.0 (rows_at found.0 bytes) found.1) }
+    // What is encoded there is found, and its rows are the only ones.
     ensures only { (insn : MInsn) (rows : List SwitchRow) (size : ℕ) →
-        StandsAt code.now pc insn rows size →
+        HoldsAt code.now pc insn rows size →
         (result ≡ Some (insn, size)) × (rows ≡ rows_at insn (drop pc code.now)) }
-    // Where nothing is found, no instruction is spelled.
+    // Where nothing is found, no instruction is encoded.
     ensures none { IfNone result ((insn : MInsn) (rows : List SwitchRow) (size : ℕ) →
-        ¬ StandsAt code.now pc insn rows size) }
+        ¬ HoldsAt code.now pc insn rows size) }
     // The same as a function of the bytes.
     ensures exact { result ≡ insn_at (drop pc code.now) }
 {

@@ -6,7 +6,7 @@ ghost use Rattle.std.specs.Ordering.{int_eq};
 ghost use Rattle.byteorder.specs.Endian.{big_number};
 ghost use Rattle.image_instr.specs.declared.insn.SwitchRow.{SwitchRow};
 ghost use Rattle.image_instr.specs.declared.insn.MInsn.{MInsn};
-ghost use Rattle.image_instr.specs.Insn.{IsAtFront, StandsAt};
+ghost use Rattle.image_instr.specs.Insn.{IsAtPrefix, HoldsAt};
 ghost use Rattle.image_instr.specs.Reading.{key_in, is_above, keys_rise as keys_rise_in, switch_in, table_in, rows_in, targets_in};
 ghost use Rattle.image_instr.specs.Switch.{IsSwitchFirst, IsSwitchAt, default_of, target_in, rows_target, targets_target};
 
@@ -17,10 +17,10 @@ use byteorder::{BigEndian, ByteOrder};
 /// The bytes of a row: its key in four, its target in two.
 const ROW: usize = 6;
 
-/// The first byte of SWITCH2; the tables are behind it.
+/// The first byte of SWITCH2; the tables are after it.
 const LAST_SWITCH: u8 = 0x76;
 
-/// The key of the row at the front.
+/// The key of the row at the prefix.
 fn key(row: &[u8]) -> i32
     requires { 4 ≤ length row.now }
     ensures { result ≡ key_in row.now }
@@ -28,8 +28,8 @@ fn key(row: &[u8]) -> i32
     BigEndian::read_u32(row).cast_signed()
 }
 
-/// The rows behind the one at the front.
-fn behind(rows: &[u8]) -> &[u8]
+/// The rows after the one at the prefix.
+fn suffix(rows: &[u8]) -> &[u8]
     requires { 6 ≤ length rows.now }
     ensures { result.now ≡ drop 6 rows.now }
 {
@@ -59,7 +59,7 @@ fn keys_rise(count: u16, rows: &[u8]) -> bool
             return false;
         }
         before = Some(key);
-        rest = behind(rest);
+        rest = suffix(rest);
     }
     true
 }
@@ -83,7 +83,7 @@ pub(crate) fn switch(width: Width, operands: &[u8]) -> Option<(MInsn, usize)>
     Some((insn, 5 + size))
 }
 
-/// Whether a key is in range behind so many keys from the low one on.
+/// Whether a key is in range after so many keys from the low one on.
 fn last_fits(low: i32, count: u16) -> bool
     ensures { result ≡ le_z (low +ℤ pos count) (pos (2 ^ 31)) }
 {
@@ -110,7 +110,7 @@ pub(crate) fn table(width: Width, operands: &[u8]) -> Option<(MInsn, usize)>
     Some((insn, 9 + size))
 }
 
-/// Whether the row at the front has the key.
+/// Whether the row at the prefix has the key.
 fn has_key(row: &[u8], wanted: i32) -> bool
     requires { 4 ≤ length row.now }
     ensures { result ≡ int_eq (key_in row.now) wanted }
@@ -118,7 +118,7 @@ fn has_key(row: &[u8], wanted: i32) -> bool
     key(row) == wanted
 }
 
-/// The target of the row at the front.
+/// The target of the row at the prefix.
 fn target(row: &[u8]) -> u16
     requires { 6 ≤ length row.now }
     ensures { result ≡ big_number 2 (drop 4 row.now) }
@@ -136,7 +136,7 @@ fn row_target(default: u16, count: u16, rows: &[u8], wanted: i32) -> u16
         if has_key(rest, wanted) {
             return target(rest);
         }
-        rest = behind(rest);
+        rest = suffix(rest);
     }
     default
 }
@@ -203,11 +203,11 @@ fn bytes_from(bytes: &[u8], place: usize) -> &[u8]
     &bytes[place..]
 }
 
-/// Where the switch or the table at the front of the bytes jumps.
+/// Where the switch or the table at the prefix of the bytes jumps.
 fn first_target(bytes: &[u8], key: i32) -> u16
     requires { IsSwitchFirst bytes.now }
     ensures { (insn : MInsn) (rows : List SwitchRow) (size : ℕ) →
-        IsAtFront insn rows size bytes.now → result ≡ target_in (default_of insn) rows key }
+        IsAtPrefix insn rows size bytes.now → result ≡ target_in (default_of insn) rows key }
 {
     let operands = bytes_from(bytes, 1);
     if bytes[0] <= LAST_SWITCH {
@@ -217,13 +217,13 @@ fn first_target(bytes: &[u8], key: i32) -> u16
     }
 }
 
-/// Where the switch or the table that stands at a place of the code jumps for a number: the target of
+/// Where the switch or the table that is at a place of the code jumps for a number: the target of
 /// the row with the number as its key, or else the default.
 pub fn switch_target(code: &[u8], pc: usize, key: i32) -> u16
     // A switch or a table stands there.
     requires { IsSwitchAt code.now pc }
     ensures { (insn : MInsn) (rows : List SwitchRow) (size : ℕ) →
-        StandsAt code.now pc insn rows size → result ≡ target_in (default_of insn) rows key }
+        HoldsAt code.now pc insn rows size → result ≡ target_in (default_of insn) rows key }
 {
     first_target(bytes_from(code, pc), key)
 }

@@ -6,7 +6,7 @@ use super::*;
 use std::alloc::{AllocError, Global};
 use std::test::*;
 
-/// Whether an instruction of this size stands at the place.
+/// Whether an instruction of this size is at the place.
 fn stands(code: &[u8], pc: usize, insn: MInsn, size: usize) -> bool {
     decode_at(code, pc) == Some((insn, size))
 }
@@ -122,7 +122,7 @@ fn bytes_that_are_no_instruction(rt: HostRuntime) -> Result<(), Fail> {
     Ok(())
 }
 
-/// Where a switch jumps, if one stands at the start.
+/// Where a switch jumps, if one is at the start.
 fn target(code: &[u8], key: i32) -> Option<u16> {
     match decode_at(code, 0)? {
         (MInsn::Switch { .. } | MInsn::Table { .. }, _) => Some(switch_target(code, 0, key)),

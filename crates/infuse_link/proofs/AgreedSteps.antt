@@ -10,7 +10,7 @@ use Rattle.image_instr.specs.declared.insn.MInsn.{MInsn}
 use Rattle.image_instr.specs.Insn.{insn_bytes, IsInsn}
 use Rattle.image_instr.specs.Reading.{insn_at}
 use Rattle.image_instr.proofs.Again.{insn_at-again}
-use Rattle.image_instr.proofs.OneSpelling.{rows_are}
+use Rattle.image_instr.proofs.EncodingIsInjective.{rows_are}
 use Rattle.jvm_model.specs.Body.{Body}
 use Rattle.jvm_model.specs.ImageOf.{image_of, code_for}
 use Rattle.jvm_model.specs.State as typed
@@ -23,18 +23,18 @@ use Rattle.infuse_link.proofs.Belong.{Belong, frame_at, state_at}
 
 -- ---- the instruction that the split machine finds
 
-found_step : (limits : Limits) (state : split.State) (frame : split.Frame) (others : List split.Frame) (bytes behind : List ℕ) (insn : MInsn) (rows : List SwitchRow) → IsInsn insn rows → bytes ≡ insn_bytes insn rows ++ behind
+found_step : (limits : Limits) (state : split.State) (frame : split.Frame) (others : List split.Frame) (bytes suffix : List ℕ) (insn : MInsn) (rows : List SwitchRow) → IsInsn insn rows → bytes ≡ insn_bytes insn rows ++ suffix
     → step_found limits state frame others bytes (insn_at bytes) ≡ step_insn limits state frame others (frame.pc + length (insn_bytes insn rows)) insn rows
-found_step limits state frame others bytes behind insn rows is bytes_are =
+found_step limits state frame others bytes suffix insn rows is bytes_are =
     ap (λ (b : List ℕ). step_found limits state frame others b (insn_at b)) bytes_are
-    ∙ ap (step_found limits state frame others (insn_bytes insn rows ++ behind)) (insn_at-again insn rows behind is)
-    ∙ ap (step_insn limits state frame others (frame.pc + length (insn_bytes insn rows)) insn) (sym (rows_are insn rows behind is))
+    ∙ ap (step_found limits state frame others (insn_bytes insn rows ++ suffix)) (insn_at-again insn rows suffix is)
+    ∙ ap (step_insn limits state frame others (frame.pc + length (insn_bytes insn rows)) insn) (sym (rows_are insn rows suffix is))
 
 -- the step at an offset of main's code at which an instruction stands
-pub split_step : (file : ClassFile) (code : CodeAttr) (body : Body) (limits : Limits) (offset : ℕ) (cells operands input : List ℕ) (ticks : ℕ) (behind : List ℕ) (insn : MInsn) (rows : List SwitchRow) → IsInsn insn rows → drop offset (code_for body) ≡ insn_bytes insn rows ++ behind
+pub split_step : (file : ClassFile) (code : CodeAttr) (body : Body) (limits : Limits) (offset : ℕ) (cells operands input : List ℕ) (ticks : ℕ) (suffix : List ℕ) (insn : MInsn) (rows : List SwitchRow) → IsInsn insn rows → drop offset (code_for body) ≡ insn_bytes insn rows ++ suffix
     → (machine (image_of file code body) limits).step (state_at offset cells operands input ticks) ≡ step_insn limits (state_at offset cells operands input ticks) (frame_at offset cells operands) [] (offset + length (insn_bytes insn rows)) insn rows
-split_step file code body limits offset cells operands input ticks behind insn rows is bytes_are =
-    found_step limits (state_at offset cells operands input ticks) (frame_at offset cells operands) [] (drop offset (code_for body)) behind insn rows is bytes_are
+split_step file code body limits offset cells operands input ticks suffix insn rows is bytes_are =
+    found_step limits (state_at offset cells operands input ticks) (frame_at offset cells operands) [] (drop offset (code_for body)) suffix insn rows is bytes_are
 
 -- ---- steps that agree
 

@@ -9,12 +9,12 @@ use Rattle.class_code.specs.declared.insn.ValueKind.TheVariants as value
 use Rattle.class_code.specs.declared.insn.Insn.{Insn}
 use Rattle.class_code.specs.declared.insn.Insn.TheVariants as insns
 use Rattle.class_code.specs.Code as code
-use Rattle.class_code.specs.Code.{Insns, StandIn, IsCode, IsStart, JumpsToStarts, decoded}
+use Rattle.class_code.specs.Code.{Insns, AreIn, IsCode, IsStart, JumpsToStarts, decoded}
 use Rattle.class_code.proofs.Laws.{code-found}
 use Rattle.class_code.proofs.Shorter.{insn_at-shorter}
-use Rattle.class_code.proofs.Numbers.{HasNumbers, IsSwitch, stand-numbers}
+use Rattle.class_code.proofs.Numbers.{HasNumbers, IsSwitch, hold-numbers}
 use Rattle.class_file.specs.declared.record.CodeAttr.{CodeAttr}
-use Rattle.class_pool.specs.Pool.{Places, integer_at, FitsEntry, EachEntry}
+use Rattle.class_pool.specs.Pool.{Slots, integer_at, FitsEntry, EachEntry}
 use Rattle.class_pool.specs.Members.{method_name_at}
 use Rattle.jvm_model.specs.State.{Whole}
 use Rattle.jvm_model.specs.Program.{OfLibrary, Family, Nop, Const, Load, Store, Inc, Stack, Bin, Negate, Convert, If, IfCmp, Goto, Switch, CallStatic, Return}
@@ -46,7 +46,7 @@ is insn first family e suits = subst (Suits insn) (same_Some first family e) sui
 none : (insn : Insn) (family : Family) → None ≡ Some family → Suits insn family
 none insn family e = absurd (none-some family e)
 
-pub suits : (pool : Places) → EachEntry FitsEntry pool → (insn : Insn) (family : Family) → family_of pool insn ≡ Some family → Suits insn family
+pub suits : (pool : Slots) → EachEntry FitsEntry pool → (insn : Insn) (family : Family) → family_of pool insn ≡ Some family → Suits insn family
 suits pool each insns.Nop family e = is insns.Nop Nop family e (record { targets_are = refl; numbers = λ h. tt })
 suits pool each insns.Null family e = none insns.Null family e
 suits pool each (insns.Push number) family e = is (insns.Push number) (Const (Whole number)) family e (record { targets_are = refl; numbers = λ h. h })
@@ -91,18 +91,18 @@ suits pool each (insns.MultiArray index dims) family e = none (insns.MultiArray 
 -- ---- a body and its instructions
 
 -- the families are those of the instructions, at their pcs
-abbrev pub AreFamilies : Places → Insns → Body → Type 0
+abbrev pub AreFamilies : Slots → Insns → Body → Type 0
 AreFamilies pool [] [] = Unit {0}
 AreFamilies pool [] (x ∷ body) = ⊥
 AreFamilies pool (x ∷ insns) [] = ⊥
 AreFamilies pool ((at, insn) ∷ insns) ((pc, family) ∷ body) = (at ≡ pc) × (family_of pool insn ≡ Some family) × AreFamilies pool insns body
 
-one_more : (pool : Places) (pc : ℕ) (insn : Insn) (insns : Insns) (family : Family) (o : Option Body) (body : Body) → family_of pool insn ≡ Some family → ((rest : Body) → o ≡ Some rest → AreFamilies pool insns rest) → option_map (λ (rest : Body). (pc, family) ∷ rest) o ≡ Some body → AreFamilies pool ((pc, insn) ∷ insns) body
+one_more : (pool : Slots) (pc : ℕ) (insn : Insn) (insns : Insns) (family : Family) (o : Option Body) (body : Body) → family_of pool insn ≡ Some family → ((rest : Body) → o ≡ Some rest → AreFamilies pool insns rest) → option_map (λ (rest : Body). (pc, family) ∷ rest) o ≡ Some body → AreFamilies pool ((pc, insn) ∷ insns) body
 one_more pool pc insn insns family None body is rest whole = absurd (none-some body whole)
 one_more pool pc insn insns family (Some others) body is rest whole =
     subst (AreFamilies pool ((pc, insn) ∷ insns)) (same_Some ((pc, family) ∷ others) body whole) (refl, is, rest others refl)
 
-pub families_are : (pool : Places) (insns : Insns) (body : Body) → families_of pool insns ≡ Some body → AreFamilies pool insns body
+pub families_are : (pool : Slots) (insns : Insns) (body : Body) → families_of pool insns ≡ Some body → AreFamilies pool insns body
 families_are pool [] body e = subst (AreFamilies pool []) (same_Some [] body e) tt
 families_are pool ((pc, insn) ∷ insns) body e =
     option_and_then_some (λ family. option_map (λ rest. (pc, family) ∷ rest) (families_of pool insns)) (family_of pool insn) body e
@@ -114,16 +114,16 @@ rises-weaker : (low high end : ℕ) (body : Body) → low ≤ high → Rises hig
 rises-weaker low high end [] le rises = omega arith
 rises-weaker low high end ((at, family) ∷ body) le rises = (omega (arith, rises.0), rises.1)
 
-stand_rise : (pool : Places) (pc end : ℕ) (bytes : List ℕ) (insns : Insns) (body : Body) (next : ℕ) (left : List ℕ) → pc + length bytes ≡ end → StandIn pc bytes insns next left → AreFamilies pool insns body → Rises pc end body
-stand_rise pool pc end bytes [] [] next left whole stand are = omega arith
-stand_rise pool pc end bytes [] (x ∷ body) next left whole stand are = absurd are
-stand_rise pool pc end bytes (x ∷ insns) [] next left whole stand are = omega arith
-stand_rise pool pc end bytes ((at, insn) ∷ insns) ((other, family) ∷ body) next left whole stand are =
+hold_rise : (pool : Slots) (pc end : ℕ) (bytes : List ℕ) (insns : Insns) (body : Body) (next : ℕ) (left : List ℕ) → pc + length bytes ≡ end → AreIn pc bytes insns next left → AreFamilies pool insns body → Rises pc end body
+hold_rise pool pc end bytes [] [] next left whole stand are = omega arith
+hold_rise pool pc end bytes [] (x ∷ body) next left whole stand are = absurd are
+hold_rise pool pc end bytes (x ∷ insns) [] next left whole stand are = omega arith
+hold_rise pool pc end bytes ((at, insn) ∷ insns) ((other, family) ∷ body) next left whole stand are =
     let less = insn_at-shorter pc bytes insn stand.1 stand.2 in
-    let rest = stand_rise pool (pc + (length bytes - length stand.1)) end stand.1 insns body next left (omega (arith, less)) stand.3 are.2 in
+    let rest = hold_rise pool (pc + (length bytes - length stand.1)) end stand.1 insns body next left (omega (arith, less)) stand.3 are.2 in
     (omega (arith, stand.0, are.0), rises-weaker (suc other) (pc + (length bytes - length stand.1)) end body (omega (arith, less, stand.0, are.0)) rest)
 
-start_at : (pool : Places) (insns : Insns) (body : Body) (pc k : ℕ) → AreFamilies pool insns body → k < length (map (λ (x : ℕ × Insn). x.0) insns) → get_or (map (λ (x : ℕ × Insn). x.0) insns) k pc ≡ pc → (family : Family) × Has body pc family
+start_at : (pool : Slots) (insns : Insns) (body : Body) (pc k : ℕ) → AreFamilies pool insns body → k < length (map (λ (x : ℕ × Insn). x.0) insns) → get_or (map (λ (x : ℕ × Insn). x.0) insns) k pc ≡ pc → (family : Family) × Has body pc family
 start_at pool [] [] pc k are lt e = absurd (omega arith)
 start_at pool [] (x ∷ body) pc k are lt e = absurd are
 start_at pool (x ∷ insns) [] pc k are lt e = absurd are
@@ -134,14 +134,14 @@ start_at pool ((at, insn) ∷ insns) ((other, family) ∷ body) pc (suc k) are l
 
 -- ---- numbers and targets
 
-numbers_are : (pool : Places) → EachEntry FitsEntry pool → (insns : Insns) (body : Body) → AreFamilies pool insns body → AllByRecursion (λ x. HasNumbers x.1) insns → AllByRecursion (λ x. HasNumbersInOrder x.1) body
+numbers_are : (pool : Slots) → EachEntry FitsEntry pool → (insns : Insns) (body : Body) → AreFamilies pool insns body → AllByRecursion (λ x. HasNumbers x.1) insns → AllByRecursion (λ x. HasNumbersInOrder x.1) body
 numbers_are pool each [] [] are all = tt
 numbers_are pool each [] (x ∷ body) are all = absurd are
 numbers_are pool each (x ∷ insns) [] are all = absurd are
 numbers_are pool each ((at, insn) ∷ insns) ((pc, family) ∷ body) are all =
     ((suits pool each insn family are.1).numbers all.0, numbers_are pool each insns body are.2 all.1)
 
-targets_are : (pool : Places) → EachEntry FitsEntry pool → (P : ℕ → Type 0) (insns : Insns) (body : Body) → AreFamilies pool insns body → AllByRecursion (λ x. AllByRecursion P (code.targets x.1)) insns → AllByRecursion (λ x. AllByRecursion P (targets x.1)) body
+targets_are : (pool : Slots) → EachEntry FitsEntry pool → (P : ℕ → Type 0) (insns : Insns) (body : Body) → AreFamilies pool insns body → AllByRecursion (λ x. AllByRecursion P (code.targets x.1)) insns → AllByRecursion (λ x. AllByRecursion P (targets x.1)) body
 targets_are pool each P [] [] are all = tt
 targets_are pool each P [] (x ∷ body) are all = absurd are
 targets_are pool each P (x ∷ insns) [] are all = absurd are
@@ -153,25 +153,25 @@ targets_are pool each P ((at, insn) ∷ insns) ((pc, family) ∷ body) are all =
 pub record IsDecoded (code : CodeAttr) (body : Body) : Type 0 where
   pub rises : Rises 0 (length code.code) body
   pub numbers : AllByRecursion (λ x. HasNumbersInOrder x.1) body
-  pub targets_stand : AllByRecursion (λ x. AllByRecursion (λ to. (family : Family) × Has body to family) (targets x.1)) body
+  pub targets_hold : AllByRecursion (λ x. AllByRecursion (λ to. (family : Family) × Has body to family) (targets x.1)) body
 
 pub all_weaker : {X : Type 0} (P Q : X → Type 0) → ((x : X) → P x → Q x) → (xs : List X) → AllByRecursion P xs → AllByRecursion Q xs
 all_weaker P Q f [] all = tt
 all_weaker P Q f (x ∷ xs) all = (f x all.0, all_weaker P Q f xs all.1)
 
-from_code : (pool : Places) (attr : CodeAttr) (insns : Insns) (body : Body) → EachEntry FitsEntry pool → IsCode attr.code insns → families_of pool insns ≡ Some body → IsDecoded attr body
+from_code : (pool : Slots) (attr : CodeAttr) (insns : Insns) (body : Body) → EachEntry FitsEntry pool → IsCode attr.code insns → families_of pool insns ≡ Some body → IsDecoded attr body
 from_code pool attr insns body each is e =
     let are = families_are pool insns body e in
     let jump = targets_are pool each (IsStart insns) insns body are is.jumps in
     record {
-      rises = stand_rise pool 0 (length attr.code) attr.code insns body is.stand.0 [] (omega arith) is.stand.1 are;
-      numbers = numbers_are pool each insns body are (stand-numbers 0 attr.code insns is.stand.0 [] is.stand.1);
-      targets_stand = all_weaker _ _ (λ x. all_weaker (IsStart insns) (λ to. (family : Family) × Has body to family) (λ to start. start_at pool insns body to start.0 are start.1 start.2) (targets x.1)) body jump;
+      rises = hold_rise pool 0 (length attr.code) attr.code insns body is.stand.0 [] (omega arith) is.stand.1 are;
+      numbers = numbers_are pool each insns body are (hold-numbers 0 attr.code insns is.stand.0 [] is.stand.1);
+      targets_hold = all_weaker _ _ (λ x. all_weaker (IsStart insns) (λ to. (family : Family) × Has body to family) (λ to start. start_at pool insns body to start.0 are start.1 start.2) (targets x.1)) body jump;
     }
 
-read_code : (pool : Places) (attr : CodeAttr) (read : Result Insns CodeRefusal) (body : Body) → EachEntry FitsEntry pool → decoded attr.code ≡ read → option_and_then (families_of pool) (insns_in read) ≡ Some body → IsDecoded attr body
+read_code : (pool : Slots) (attr : CodeAttr) (read : Result Insns CodeRefusal) (body : Body) → EachEntry FitsEntry pool → decoded attr.code ≡ read → option_and_then (families_of pool) (insns_in read) ≡ Some body → IsDecoded attr body
 read_code pool attr (Ok insns) body each is e = from_code pool attr insns body each (code-found attr.code insns is) e
 read_code pool attr (Err why) body each is e = absurd (none-some body e)
 
-pub body_decoded : (pool : Places) (attr : CodeAttr) (body : Body) → EachEntry FitsEntry pool → body_of pool attr ≡ Some body → IsDecoded attr body
+pub body_decoded : (pool : Slots) (attr : CodeAttr) (body : Body) → EachEntry FitsEntry pool → body_of pool attr ≡ Some body → IsDecoded attr body
 body_decoded pool attr body each e = read_code pool attr (decoded attr.code) body each refl e

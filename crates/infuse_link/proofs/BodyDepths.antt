@@ -10,7 +10,7 @@ use Rattle.image_form.specs.declared.record.Method.{Method}
 use Rattle.class_code.specs.declared.insn.SwitchForm.TheVariants as switch
 use Rattle.jvm_model.specs.Program.{Family, Nop, Const, Load, Store, Inc, Stack, Bin, Negate, Convert, If, IfCmp, Goto, Switch, CallStatic, Return}
 use Rattle.jvm_model.specs.Body.{Body}
-use Rattle.jvm_model.specs.NumberForm.{is_of_form, height_behind, targets, is_final, is_in, all_targets, EndsThere, IsBalanced}
+use Rattle.jvm_model.specs.NumberForm.{is_of_form, height_after, targets, is_final, is_in, all_targets, EndsThere, IsBalanced}
 use Rattle.jvm_model.specs.FrameCells.{greatest_height}
 use Rattle.jvm_model.specs.Expansion.{Emitted, emitted_bytes, expanded, offset_of, body_bytes}
 use Rattle.infuse_link.proofs.FamilySizes.{family-size}
@@ -54,8 +54,8 @@ targets-in ((at, other) ∷ body) pc family has =
     elim has [
       | inl same ↦ subst (λ (f : Family). AllByRecursion (λ to. is_in (targets other ++ all_targets body) to ≡ true) (targets f)) same.1
           (all_weaker (λ to. is_in (targets other) to ≡ true) (λ to. is_in (targets other ++ all_targets body) to ≡ true) (λ to h. in-left (targets other) (all_targets body) to h) (targets other) (own (targets other)))
-      | inr behind ↦
-          all_weaker (λ to. is_in (all_targets body) to ≡ true) (λ to. is_in (targets other ++ all_targets body) to ≡ true) (λ to h. in-right (targets other) (all_targets body) to h) (targets family) (targets-in body pc family behind)
+      | inr suffix ↦
+          all_weaker (λ to. is_in (all_targets body) to ≡ true) (λ to. is_in (targets other ++ all_targets body) to ≡ true) (λ to h. in-right (targets other) (all_targets body) to h) (targets family) (targets-in body pc family suffix)
     ]
 
 -- ---- the last instruction
@@ -108,9 +108,9 @@ module _ (slot place : ℕ → ℕ) where
         → AllByRecursion (λ x. IsGood image slot place method Lands x.1) body → AreGood image method Lands (2 * height) (all_expanded slot place body)
     body-good method no_result Lands top height [] room most balanced good = tt
     body-good method no_result Lands top height ((pc, family) ∷ body) room most balanced good =
-        let behind : height_behind height family ≤ top = omega (arith, most, own-height (height_behind height family) body) in
-        let at : IsAtHeight image slot place method family height = record { enough = balanced.1; room = omega (arith, room, most); room_behind = omega (arith, room, behind); empty = balanced.3 } in
-        let rest = body-good method no_result Lands top (height_behind height family) body room (omega (arith, most)) balanced.4 good.1 in
+        let suffix : height_after height family ≤ top = omega (arith, most, own-height (height_after height family) body) in
+        let at : IsAtHeight image slot place method family height = record { enough = balanced.1; room = omega (arith, room, most); room_after = omega (arith, room, suffix); empty = balanced.3 } in
+        let rest = body-good method no_result Lands top (height_after height family) body room (omega (arith, most)) balanced.4 good.1 in
         good-append image method Lands (2 * height) (expanded slot place family) (all_expanded slot place body) (family-good image slot place method no_result Lands height family good.0 at)
         (subst (λ (n : ℕ). AreGood image method Lands n (all_expanded slot place body)) (sym (family-cells image slot place height family good.0.of_form balanced.1)) rest)
 
@@ -131,14 +131,14 @@ module _ (slot place : ℕ → ℕ) where
               let zero_cells : 0 ≡ 2 * height = omega (arith, none) in
               subst (λ (n : ℕ). enters image at n es (at + offset_of slot ((pc, other) ∷ body) to) 0 ≡ true) zero_cells
               (subst (λ (n : ℕ). enters image at 0 es n 0 ≡ true) here (entered-first at es (body-ends ((pc, other) ∷ body) ends).1))
-          | inr behind ↦
-              let above = between (suc pc) end body to family rises.1 behind in
+          | inr suffix ↦
+              let above = between (suc pc) end body to family rises.1 suffix in
               let cells = family-cells image slot place height other forms.0 balanced.1 in
               let size = family-size slot place other in
               let past = offset-past slot pc other body to (omega (arith, above.0)) in
-              let rest = target-entered (at + length (bytes_of (expanded slot place other))) (height_behind height other) (suc pc) end body to family rises.1 balanced.4 forms.1 (ends-rest (pc, other) body to family ends behind) arrives behind in
+              let rest = target-entered (at + length (bytes_of (expanded slot place other))) (height_after height other) (suc pc) end body to family rises.1 balanced.4 forms.1 (ends-rest (pc, other) body to family ends suffix) arrives suffix in
               let there : at + length (bytes_of (expanded slot place other)) + offset_of slot body to ≡ at + offset_of slot ((pc, other) ∷ body) to = omega (arith, size, past) in
               enters-past image at (2 * height) (expanded slot place other) (all_expanded slot place body) (at + offset_of slot ((pc, other) ∷ body) to) 0
               (subst (λ (n : ℕ). enters image (at + length (bytes_of (expanded slot place other))) n (all_expanded slot place body) (at + offset_of slot ((pc, other) ∷ body) to) 0 ≡ true) (sym cells)
-              (subst (λ (n : ℕ). enters image (at + length (bytes_of (expanded slot place other))) (2 * height_behind height other) (all_expanded slot place body) n 0 ≡ true) there rest))
+              (subst (λ (n : ℕ). enters image (at + length (bytes_of (expanded slot place other))) (2 * height_after height other) (all_expanded slot place body) n 0 ≡ true) there rest))
         ]

@@ -1,4 +1,4 @@
--- The layout of an accepted file's code: what stands at the offset of each pc, where offsets lead, and that
+-- The layout of an accepted file's code: what is at the offset of each pc, where offsets lead, and that
 -- each instruction is one.
 use Rattle.std.proofs.Common.{◌≡◌, ℕ, ◌+◌, ◌^◌, ◌≤◌, ◌<◌, true, List, ◌++◌, length, drop, Some, sym, subst, FitsSigned, w16, w32, arith}
 use Rattle.std.specs.List.{AllByRecursion, Contains}
@@ -106,8 +106,8 @@ module _ (files : List (List ℕ)) (file : ClassFile) (code : CodeAttr) (body : 
       let has = has_from body pc family within in
       record { below = written_below code body form pc family local has e; written = written_by body pc family local has e; cells = written_held code body form pc family local has e }
 
-  pub places_fit : (pc : ℕ) → offset_of (slot_of body) body pc < 2 ^ 16
-  places_fit pc = omega (arith, offset-within (slot_of body) (offset_of (slot_of body) body) body pc, accepted.code_fits)
+  pub slots_fit : (pc : ℕ) → offset_of (slot_of body) body pc < 2 ^ 16
+  slots_fit pc = omega (arith, offset-within (slot_of body) (offset_of (slot_of body) body) body pc, accepted.code_fits)
 
   numbers : (pc : ℕ) (family : Family) → Has body pc family → HasNumbersInOrder family
   numbers pc family has = all_has (λ x. HasNumbersInOrder x.1) body pc family decoded.numbers has
@@ -124,22 +124,22 @@ module _ (files : List (List ℕ)) (file : ClassFile) (code : CodeAttr) (body : 
   pub family_fits : (pc : ℕ) (family : Family) → Contains body (pc, family) → AllByRecursion (λ e. IsInsn e.0 e.1) (expanded (slot_of body) (offset_of (slot_of body) body) family)
   family_fits pc family within =
       let has = has_from body pc family within in
-      fits (offset_of (slot_of body) body) places_fit (slot_of body) family (numbers pc family has)
+      fits (offset_of (slot_of body) body) slots_fit (slot_of body) family (numbers pc family has)
       (λ local e. held-fits local (read_local pc family local within e)) (λ local e. held-fits local (written_local pc family local within e)) (few pc family has)
 
   pub code_at : (pc : ℕ) (family : Family) → Contains body (pc, family)
-      → (behind : List ℕ) × (drop (offset_of (slot_of body) body pc) (code_for body) ≡ family_bytes (slot_of body) (offset_of (slot_of body) body) family ++ behind)
+      → (suffix : List ℕ) × (drop (offset_of (slot_of body) body pc) (code_for body) ≡ family_bytes (slot_of body) (offset_of (slot_of body) body) family ++ suffix)
   code_at pc family within = code-from (slot_of body) (offset_of (slot_of body) body) 0 (length code.code) body pc family decoded.rises (has_from body pc family within)
 
   size_is : (family : Family) → length (family_bytes (slot_of body) (offset_of (slot_of body) body) family) ≡ size_of (slot_of body) family
   size_is family = family-size (slot_of body) (offset_of (slot_of body) body) family
 
-  -- the offset of the pc behind a family is that behind its bytes
+  -- the offset of the pc after a family is that after its bytes
   pub next_place : (pc : ℕ) (placed : Placed) → placed_in body (length code.code) pc ≡ Some placed
       → offset_of (slot_of body) body placed.next ≡ offset_of (slot_of body) body pc + length (family_bytes (slot_of body) (offset_of (slot_of body) body) placed.family)
   next_place pc placed e = omega (arith, offset-next (slot_of body) 0 (length code.code) body pc placed decoded.rises e, size_is placed.family)
 
-  -- behind a family with bytes the offsets are greater
+  -- after a family with bytes the offsets are greater
   pub place_grows : (pc to : ℕ) (placed : Placed) → placed_in body (length code.code) pc ≡ Some placed → 0 < length (family_bytes (slot_of body) (offset_of (slot_of body) body) placed.family) → pc < to
       → offset_of (slot_of body) body pc < offset_of (slot_of body) body to
   place_grows pc to placed e some lt =
@@ -148,4 +148,4 @@ module _ (files : List (List ℕ)) (file : ClassFile) (code : CodeAttr) (body : 
   pub targets_placed : (pc : ℕ) (family : Family) → Contains body (pc, family) → AllByRecursion (λ to. (placed : Placed) × (placed_in body (length code.code) to ≡ Some placed)) (targets family)
   targets_placed pc family within =
       all_weaker _ _ (λ to stands. let found = has_placed 0 (length code.code) body to stands.0 decoded.rises stands.1 in (found.0, found.1)) (targets family)
-      (all_has (λ x. AllByRecursion (λ to. (family : Family) × Has body to family) (targets x.1)) body pc family decoded.targets_stand (has_from body pc family within))
+      (all_has (λ x. AllByRecursion (λ to. (family : Family) × Has body to family) (targets x.1)) body pc family decoded.targets_hold (has_from body pc family within))

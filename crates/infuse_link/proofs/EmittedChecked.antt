@@ -8,20 +8,20 @@ use Rattle.image_instr.specs.declared.insn.SwitchRow as image_row
 use Rattle.image_instr.specs.declared.insn.MInsn.{MInsn}
 use Rattle.image_instr.specs.Reading.{insn_at, rows_at}
 use Rattle.image_instr.proofs.Again.{insn_at-again}
-use Rattle.image_instr.proofs.OneSpelling.{rows_are}
+use Rattle.image_instr.proofs.EncodingIsInjective.{rows_are}
 use Rattle.image_form.specs.declared.record.Image.{Image}
 use Rattle.image_form.specs.declared.record.Method.{Method}
-use Rattle.image_check.specs.Code.{Insns, StandIn, CodeIs, IsStart, targets, JumpsToStarts}
+use Rattle.image_check.specs.Code.{Insns, AreIn, CodeIs, IsStart, targets, JumpsToStarts}
 use Rattle.image_check.specs.Ids.{HasIds}
 use Rattle.image_check.specs.Built.{is_built}
-use Rattle.image_check.specs.Visits.{Depth, depth, moved_by, behind, goes_on, successors, IsClosed, IsSent, IsRight}
+use Rattle.image_check.specs.Visits.{Depth, depth, moved_by, suffix, goes_on, successors, IsClosed, IsSent, IsRight}
 use Rattle.image_check.specs.Checked.{IsCheckedMethod, IsBuiltMethod}
 use Rattle.jvm_model.specs.Expansion.{Emitted, emitted_bytes}
-use Rattle.infuse_link.proofs.EmittedDepths.{size_at, bytes_of, positions, EndsLast, ends-tail, size-some, cells_behind, enters, enters-first, enters-later, enters-cases, IsGoodAt, AreGood, one-cells}
+use Rattle.infuse_link.proofs.EmittedDepths.{size_at, bytes_of, positions, EndsLast, ends-tail, size-some, cells_next, enters, enters-first, enters-later, enters-cases, IsGoodAt, AreGood, one-cells}
 
--- behind the first instruction of the bytes the others stand
-rest-stands : (code : List ℕ) (at : ℕ) (e : Emitted) (es : List Emitted) → drop at code ≡ bytes_of (e ∷ es) → drop (at + size_at e) code ≡ bytes_of es
-rest-stands code at e es stands =
+-- after the first instruction of the bytes the others stand
+rest-holds : (code : List ℕ) (at : ℕ) (e : Emitted) (es : List Emitted) → drop at code ≡ bytes_of (e ∷ es) → drop (at + size_at e) code ≡ bytes_of es
+rest-holds code at e es stands =
     sym (drop-drop (size_at e) at code) ∙ ap (drop (size_at e)) stands ∙ drop_at (emitted_bytes e) (bytes_of es) (size_at e) refl
 
 all-append : {X : Type 0} (P : X → Type 0) (xs ys : List X) → AllByRecursion P xs → AllByRecursion P ys → AllByRecursion P (xs ++ ys)
@@ -35,15 +35,15 @@ all-also P Q f (x ∷ xs) all = (f x all.0, all-also P Q f xs all.1)
 module _ (image : Image) (method : Method) (Lands : ℕ → Type 0) where
   -- ---- the instructions
 
-  stand : (at cells end : ℕ) (es : List Emitted) → AreGood image method Lands cells es → end ≡ at + length (bytes_of es) → StandIn at (bytes_of es) (positions at es) end []
+  stand : (at cells end : ℕ) (es : List Emitted) → AreGood image method Lands cells es → end ≡ at + length (bytes_of es) → AreIn at (bytes_of es) (positions at es) end []
   stand at cells end [] good e = (omega (arith, e), refl)
   stand at cells end (x ∷ es) good e =
       let next : end ≡ (at + size_at x) + length (bytes_of es) = omega (arith, e, length-append (emitted_bytes x) (bytes_of es)) in
-      let rest = stand (at + size_at x) (cells_behind image cells x.0) end es good.1 next in (
+      let rest = stand (at + size_at x) (cells_next image cells x.0) end es good.1 next in (
         refl,
         size_at x,
         insn_at-again x.0 x.1 (bytes_of es) good.0.is_insn,
-        subst (λ (bytes : List ℕ). StandIn (at + size_at x) bytes (positions (at + size_at x) es) end []) (sym (drop_at (emitted_bytes x) (bytes_of es) (size_at x) refl)) rest,
+        subst (λ (bytes : List ℕ). AreIn (at + size_at x) bytes (positions (at + size_at x) es) end []) (sym (drop_at (emitted_bytes x) (bytes_of es) (size_at x) refl)) rest,
       )
 
   start-entered : (at cells : ℕ) (es : List Emitted) (pc d : ℕ) → enters image at cells es pc d ≡ true → IsStart (positions at es) pc
@@ -51,41 +51,41 @@ module _ (image : Image) (method : Method) (Lands : ℕ → Type 0) where
   start-entered at cells (x ∷ es) pc d h =
       elim (enters-cases image at cells x es pc d h) [
         | inl here ↦ (0, omega arith, here.0)
-        | inr later ↦ let rest = start-entered (at + size_at x) (cells_behind image cells x.0) es pc d later in (suc rest.0, omega (arith, rest.1), rest.2)
+        | inr later ↦ let rest = start-entered (at + size_at x) (cells_next image cells x.0) es pc d later in (suc rest.0, omega (arith, rest.1), rest.2)
       ]
 
   jump-all : (code : List ℕ) (insns : Insns) → ((to : ℕ) → Lands to → IsStart insns to) → (at cells : ℕ) (es : List Emitted) → drop at code ≡ bytes_of es → AreGood image method Lands cells es → AllByRecursion (JumpsToStarts code insns) (positions at es)
   jump-all code insns start at cells [] stands good = tt
   jump-all code insns start at cells (x ∷ es) stands good =
-      let here : AllByRecursion (IsStart insns) (targets x.0 x.1) = all-also (λ to. Lands to × (cells_behind image cells x.0 ≡ 0)) (IsStart insns) (λ to lands. start to lands.0) (targets x.0 x.1) good.0.lands in
+      let here : AllByRecursion (IsStart insns) (targets x.0 x.1) = all-also (λ to. Lands to × (cells_next image cells x.0 ≡ 0)) (IsStart insns) (λ to lands. start to lands.0) (targets x.0 x.1) good.0.lands in
       let rows : x.1 ≡ rows_at x.0 (drop at code) = rows_are x.0 x.1 (bytes_of es) good.0.is_insn ∙ ap (rows_at x.0) (sym stands) in (
         subst (λ (r : List image_row.SwitchRow). AllByRecursion (IsStart insns) (targets x.0 r)) rows here,
-        jump-all code insns start (at + size_at x) (cells_behind image cells x.0) es (rest-stands code at x es stands) good.1,
+        jump-all code insns start (at + size_at x) (cells_next image cells x.0) es (rest-holds code at x es stands) good.1,
       )
 
   ids-all : (at cells : ℕ) (es : List Emitted) → AreGood image method Lands cells es → AllByRecursion (λ x. HasIds image method x.1) (positions at es)
   ids-all at cells [] good = tt
-  ids-all at cells (x ∷ es) good = (good.0.ids, ids-all (at + size_at x) (cells_behind image cells x.0) es good.1)
+  ids-all at cells (x ∷ es) good = (good.0.ids, ids-all (at + size_at x) (cells_next image cells x.0) es good.1)
 
   built-all : (at cells : ℕ) (es : List Emitted) → AreGood image method Lands cells es → AllByRecursion (λ x. is_built x.1 ≡ true) (positions at es)
   built-all at cells [] good = tt
-  built-all at cells (x ∷ es) good = (good.0.built, built-all (at + size_at x) (cells_behind image cells x.0) es good.1)
+  built-all at cells (x ∷ es) good = (good.0.built, built-all (at + size_at x) (cells_next image cells x.0) es good.1)
 
   -- ---- what is entered
 
-  -- the instruction at an offset that is entered with so many cells, and that the one behind it is entered too
+  -- the instruction at an offset that is entered with so many cells, and that the one after it is entered too
   pub record Found (code : List ℕ) (at cells : ℕ) (es : List Emitted) (pc d : ℕ) : Type 0 where
     pub e : Emitted
     pub rest : List Emitted
     pub good : IsGoodAt image method Lands d e
     pub stands : drop pc code ≡ emitted_bytes e ++ bytes_of rest
-    pub next : goes_on e.0 ≡ true → (enters image at cells es (pc + size_at e) (cells_behind image d e.0) ≡ true) × (0 < length (bytes_of rest))
+    pub next : goes_on e.0 ≡ true → (enters image at cells es (pc + size_at e) (cells_next image d e.0) ≡ true) × (0 < length (bytes_of rest))
 
-  next-entered : (at cells : ℕ) (e : Emitted) (es : List Emitted) → EndsLast (e ∷ es) → AreGood image method Lands (cells_behind image cells e.0) es → goes_on e.0 ≡ true
-      → (enters image at cells (e ∷ es) (at + size_at e) (cells_behind image cells e.0) ≡ true) × (0 < length (bytes_of es))
+  next-entered : (at cells : ℕ) (e : Emitted) (es : List Emitted) → EndsLast (e ∷ es) → AreGood image method Lands (cells_next image cells e.0) es → goes_on e.0 ≡ true
+      → (enters image at cells (e ∷ es) (at + size_at e) (cells_next image cells e.0) ≡ true) × (0 < length (bytes_of es))
   next-entered at cells e [] ends good on = absurd (false≢true (sym ends ∙ on))
   next-entered at cells e (x ∷ es) ends good on = (
-    enters-later image at cells e (x ∷ es) (at + size_at e) (cells_behind image cells e.0) (enters-first image (at + size_at e) (cells_behind image cells e.0) x es),
+    enters-later image at cells e (x ∷ es) (at + size_at e) (cells_next image cells e.0) (enters-first image (at + size_at e) (cells_next image cells e.0) x es),
     omega (arith, size-some x good.0.is_insn, length-append (emitted_bytes x) (bytes_of es)),
   )
 
@@ -97,13 +97,13 @@ module _ (image : Image) (method : Method) (Lands : ℕ → Type 0) where
             subst (λ (n : ℕ). Found code at cells (x ∷ es) n d) here.0 (subst (λ (n : ℕ). Found code at cells (x ∷ es) at n) here.1
             (record { e = x; rest = es; good = good.0; stands = stands; next = next-entered at cells x es ends good.1 }))
         | inr later ↦
-            let f = found code (at + size_at x) (cells_behind image cells x.0) es pc d (rest-stands code at x es stands) (ends-tail x es ends) good.1 later in
+            let f = found code (at + size_at x) (cells_next image cells x.0) es pc d (rest-holds code at x es stands) (ends-tail x es ends) good.1 later in
             record {
               e = f.e;
               rest = f.rest;
               good = f.good;
               stands = f.stands;
-              next = λ on. (enters-later image at cells x es (pc + size_at f.e) (cells_behind image d f.e.0) (f.next on).0, (f.next on).1);
+              next = λ on. (enters-later image at cells x es (pc + size_at f.e) (cells_next image d f.e.0) (f.next on).0, (f.next on).1);
             }
       ]
 
@@ -132,19 +132,19 @@ module _ (image : Image) (method : Method) (es : List Emitted) (code_is : method
   read_at : (pc d : ℕ) (f : Found image method (LandsIn image es) method.code 0 0 es pc d) → insn_at (drop pc method.code) ≡ Some (f.e.0, size_at f.e)
   read_at pc d f = ap insn_at f.stands ∙ insn_at-again f.e.0 f.e.1 (bytes_of f.rest) f.good.is_insn
 
-  -- the depth behind an instruction is in the set where its cells are entered
+  -- the depth after an instruction is in the set where its cells are entered
   abbrev Sends : ℕ → MInsn → ℕ → Type 0
-  Sends cells insn to = holds image es to (behind (moved_by image insn) (depth 0 cells)).refs (behind (moved_by image insn) (depth 0 cells)).cells ≡ true
+  Sends cells insn to = holds image es to (suffix (moved_by image insn) (depth 0 cells)).refs (suffix (moved_by image insn) (depth 0 cells)).cells ≡ true
 
-  sends : (cells : ℕ) (e : Emitted) (to : ℕ) → IsGoodAt image method (LandsIn image es) cells e → enters image 0 0 es to (cells_behind image cells e.0) ≡ true → Sends cells e.0 to
+  sends : (cells : ℕ) (e : Emitted) (to : ℕ) → IsGoodAt image method (LandsIn image es) cells e → enters image 0 0 es to (cells_next image cells e.0) ≡ true → Sends cells e.0 to
   sends cells e to g h =
-      let none : (behind (moved_by image e.0) (depth 0 cells)).refs ≡ 0 = omega (arith, g.no_ref_pop, g.no_ref_push) in
-      and_from (eqb (behind (moved_by image e.0) (depth 0 cells)).refs 0) (enters image 0 0 es to (cells_behind image cells e.0)) (eq-eqb (behind (moved_by image e.0) (depth 0 cells)).refs 0 none) h
+      let none : (suffix (moved_by image e.0) (depth 0 cells)).refs ≡ 0 = omega (arith, g.no_ref_pop, g.no_ref_push) in
+      and_from (eqb (suffix (moved_by image e.0) (depth 0 cells)).refs 0) (enters image 0 0 es to (cells_next image cells e.0)) (eq-eqb (suffix (moved_by image e.0) (depth 0 cells)).refs 0 none) h
 
   closed_at : (pc cells : ℕ) (f : Found image method (LandsIn image es) method.code 0 0 es pc cells) → AllByRecursion (Sends cells f.e.0) (successors method.code pc f.e.0 (size_at f.e))
   closed_at pc cells f =
       let rows : f.e.1 ≡ rows_at f.e.0 (drop pc method.code) = rows_are f.e.0 f.e.1 (bytes_of f.rest) f.good.is_insn ∙ ap (rows_at f.e.0) (sym f.stands) in
-      let jumps : AllByRecursion (Sends cells f.e.0) (targets f.e.0 f.e.1) = all-also (λ to. LandsIn image es to × (cells_behind image cells f.e.0 ≡ 0)) (Sends cells f.e.0) (λ to lands.
+      let jumps : AllByRecursion (Sends cells f.e.0) (targets f.e.0 f.e.1) = all-also (λ to. LandsIn image es to × (cells_next image cells f.e.0 ≡ 0)) (Sends cells f.e.0) (λ to lands.
       sends cells f.e to f.good (subst (λ (n : ℕ). enters image 0 0 es to n ≡ true) (sym lands.1) lands.0)) (targets f.e.0 f.e.1) f.good.lands in
       all-append (Sends cells f.e.0) (cond (goes_on f.e.0) ((pc + size_at f.e) ∷ []) []) (targets f.e.0 (rows_at f.e.0 (drop pc method.code)))
       (if-goes (Sends cells f.e.0) (goes_on f.e.0) (pc + size_at f.e) (λ on. sends cells f.e (pc + size_at f.e) f.good (f.next on).0))
@@ -155,7 +155,7 @@ module _ (image : Image) (method : Method) (es : List Emitted) (code_is : method
       let both = and_parts (eqb refs 0) (enters image 0 0 es pc cells) h in
       let f = found_at pc cells both.1 in
       let same = some_pair_parts insn f.e.0 size (size_at f.e) (sym at ∙ read_at pc cells f) in
-      subst (λ (r : ℕ). AllByRecursion (λ to. holds image es to (behind (moved_by image insn) (depth r cells)).refs (behind (moved_by image insn) (depth r cells)).cells ≡ true) (successors method.code pc insn size)) (sym (eqb-true refs 0 both.0))
+      subst (λ (r : ℕ). AllByRecursion (λ to. holds image es to (suffix (moved_by image insn) (depth r cells)).refs (suffix (moved_by image insn) (depth r cells)).cells ≡ true) (successors method.code pc insn size)) (sym (eqb-true refs 0 both.0))
       (subst (λ (i : MInsn). AllByRecursion (Sends cells i) (successors method.code pc i size)) (sym same.0)
       (subst (λ (n : ℕ). AllByRecursion (Sends cells f.e.0) (successors method.code pc f.e.0 n)) (sym same.1) (closed_at pc cells f)))
 
@@ -177,7 +177,7 @@ module _ (image : Image) (method : Method) (es : List Emitted) (code_is : method
         operands = record { refs = omega (arith, f.good.no_ref_pop); cells = f.good.operands };
         result = f.good.result;
         fits = omega (arith, f.good.fits, is.0);
-        fits_behind = omega (arith, f.good.fits_behind, is.0, f.good.no_ref_pop, f.good.no_ref_push);
+        fits_after = omega (arith, f.good.fits_after, is.0, f.good.no_ref_pop, f.good.no_ref_push);
         inside = λ on. omega (arith, (f.next on).1, length_is);
       }
 
@@ -188,14 +188,14 @@ module _ (image : Image) (method : Method) (es : List Emitted) (code_is : method
       let cells : d.cells ≡ e.cells = one-cells image method (LandsIn image es) 0 0 es pc d.cells e.cells good is.1 also.1 in
       ap (λ (r : ℕ). depth r d.cells) (is.0 ∙ sym also.0) ∙ ap (depth e.refs) cells
 
-  code_stands : CodeIs method.code (positions 0 es)
-  code_stands =
-      (length (bytes_of es), subst (λ (bytes : List ℕ). StandIn 0 bytes (positions 0 es) (length (bytes_of es)) []) (sym code_is) (stand image method (LandsIn image es) 0 0 (length (bytes_of es)) es good (omega arith)))
+  code_holds : CodeIs method.code (positions 0 es)
+  code_holds =
+      (length (bytes_of es), subst (λ (bytes : List ℕ). AreIn 0 bytes (positions 0 es) (length (bytes_of es)) []) (sym code_is) (stand image method (LandsIn image es) 0 0 (length (bytes_of es)) es good (omega arith)))
 
   pub method_checked : IsCheckedMethod image method
   method_checked = record {
     insns = positions 0 es;
-    code = code_stands;
+    code = code_holds;
     targets = jump-all image method (LandsIn image es) method.code (positions 0 es) (λ to lands. start-entered image method (LandsIn image es) 0 0 es to 0 lands) 0 0 es code_is good;
     ids = ids-all image method (LandsIn image es) 0 0 es good;
     right = right;
@@ -203,4 +203,4 @@ module _ (image : Image) (method : Method) (es : List Emitted) (code_is : method
   }
 
   pub method_built : IsBuiltMethod method
-  method_built = (positions 0 es, code_stands, built-all image method (LandsIn image es) 0 0 es good)
+  method_built = (positions 0 es, code_holds, built-all image method (LandsIn image es) 0 0 es good)

@@ -16,7 +16,7 @@ use Rattle.infuse_link.specs.declared.reach.Reached.{Reached}
 use Rattle.infuse_link.specs.NumberInsns.{NumberInsns, meant, body_meant}
 use Rattle.infuse_link.specs.Exits.{goes_on, jumps, exit_way, Exits, exits_meant, ways_of}
 use Rattle.infuse_link.specs.Reach.{RisesFrom, Spread, marks_of, unmarked, from_pc, goes_to, leads}
-use Rattle.infuse_link.proofs.Loops.{front}
+use Rattle.infuse_link.proofs.Loops.{prefix}
 use Rattle.infuse_link.proofs.RisingPcs.{from_none, from_before, from_here, unmarked_none, unmarked_more}
 use Rattle.infuse_link.proofs.Spreads.{successors_are}
 
@@ -112,7 +112,7 @@ module _ (rows : List HandlerRow) where
     its_way = (with_handlers rows (here.0, exit_way here.1)).1
 
     visit_here : i < length exits → (if here.0 == pc then successors its_way rest else []) ≡ leads pc (from_pc pc (ways_of rows exits))
-    visit_here lt = ap (λ (list : Exits). leads pc (ways_of rows list)) (sym (front exits i nowhere lt)) ∙ ap (leads pc) from
+    visit_here lt = ap (λ (list : Exits). leads pc (ways_of rows list)) (sym (prefix exits i nowhere lt)) ∙ ap (leads pc) from
 
     pub visit_leads : i < length exits → here.0 ≡ pc → goes_to (goes_on here.1) (drop (i + 1) exits) ++ (jumps here.1 ++ handlers_at rows pc) ≡ leads pc (from_pc pc (ways_of rows exits))
     visit_leads lt same =

@@ -41,8 +41,8 @@ use Rattle.infuse_link.proofs.FamiliesConvert.{converts}
 pub record Stands (code : CodeAttr) (body : Body) (pc next : ℕ) (family : Family) : Type 0 where
   pub of_form : is_of_form family ≡ true
   pub insns_fit : AllByRecursion (λ e. IsInsn e.0 e.1) (expanded (slot_of body) (place_in body) family)
-  pub behind : List ℕ
-  pub bytes_are : drop (place_in body pc) (code_for body) ≡ family_bytes (slot_of body) (place_in body) family ++ behind
+  pub suffix : List ℕ
+  pub bytes_are : drop (place_in body pc) (code_for body) ≡ family_bytes (slot_of body) (place_in body) family ++ suffix
   pub place_is : place_in body next ≡ place_in body pc + length (family_bytes (slot_of body) (place_in body) family)
   pub grows : 0 < length (family_bytes (slot_of body) (place_in body) family) → (to : ℕ) → pc < to → place_in body pc < place_in body to
   pub number_fits : (number : ℤ) → family ≡ Const (Whole number) → FitsSigned w32 number
@@ -58,12 +58,12 @@ module _ (file : ClassFile) (code : CodeAttr) (body : Body) (limits : Limits) (p
   split_does insn rows = split.step_insn limits (split_at body p) (split_frame body p) [] (place_in body next) insn rows
 
   -- a family of one instruction
-  by_one : (insn : MInsn) (rows : List SwitchRow) (behind : List ℕ) → IsInsn insn rows → drop (place_in body p.pc) (code_for body) ≡ (insn_bytes insn rows ++ []) ++ behind → place_in body next ≡ place_in body p.pc + length (insn_bytes insn rows ++ [])
+  by_one : (insn : MInsn) (rows : List SwitchRow) (suffix : List ℕ) → IsInsn insn rows → drop (place_in body p.pc) (code_for body) ≡ (insn_bytes insn rows ++ []) ++ suffix → place_in body next ≡ place_in body p.pc + length (insn_bytes insn rows ++ [])
       → (first : Step typed_state.State typed.Ending) → Agrees file code body first (split_does insn rows) → FollowedBy first
-  by_one insn rows behind insn_is bytes_are place_is first agrees =
-      let bytes : drop (place_in body p.pc) (code_for body) ≡ insn_bytes insn rows ++ behind = bytes_are ∙ ap (λ (b : List ℕ). b ++ behind) (append-nil (insn_bytes insn rows)) in
+  by_one insn rows suffix insn_is bytes_are place_is first agrees =
+      let bytes : drop (place_in body p.pc) (code_for body) ≡ insn_bytes insn rows ++ suffix = bytes_are ∙ ap (λ (b : List ℕ). b ++ suffix) (append-nil (insn_bytes insn rows)) in
       let goes : place_in body p.pc + length (insn_bytes insn rows) ≡ place_in body next = ap (λ (b : List ℕ). place_in body p.pc + length b) (sym (append-nil (insn_bytes insn rows))) ∙ sym place_is in
-      let step_is = split_step file code body limits (place_in body p.pc) p.cells (cells_of p.numbers) p.input p.ticks behind insn rows insn_is bytes ∙ ap (λ (n : ℕ). split.step_insn limits (split_at body p) (split_frame body p) [] n insn rows) goes in
+      let step_is = split_step file code body limits (place_in body p.pc) p.cells (cells_of p.numbers) p.input p.ticks suffix insn rows insn_is bytes ∙ ap (λ (n : ℕ). split.step_insn limits (split_at body p) (split_frame body p) [] n insn rows) goes in
       matched file code body limits (split_at body p) first (subst (Agrees file code body first) (sym step_is) agrees)
 
   -- whichever constant it is
@@ -91,17 +91,17 @@ module _ (file : ClassFile) (code : CodeAttr) (body : Body) (limits : Limits) (p
     };
   }
   family_followed (Const (Whole number)) stands =
-      by_one (constant number) [] stands.behind stands.insns_fit.0 stands.bytes_are stands.place_is (typed_does (Const (Whole number))) (const_does (typed_does (Const (Whole number))) number (const_agrees file code body p is next number (stands.number_fits number refl)))
+      by_one (constant number) [] stands.suffix stands.insns_fit.0 stands.bytes_are stands.place_is (typed_does (Const (Whole number))) (const_does (typed_does (Const (Whole number))) number (const_agrees file code body p is next number (stands.number_fits number refl)))
   family_followed (Const Null) stands = absurd (false≢true stands.of_form)
   family_followed (Const (Name name)) stands = absurd (false≢true stands.of_form)
   family_followed (Load local) stands =
-      by_one (insns.Load kind.Two (slot_of body local)) [] stands.behind stands.insns_fit.0 stands.bytes_are stands.place_is (typed_does (Load local)) (load_agrees file code body p is next local)
+      by_one (insns.Load kind.Two (slot_of body local)) [] stands.suffix stands.insns_fit.0 stands.bytes_are stands.place_is (typed_does (Load local)) (load_agrees file code body p is next local)
   family_followed (Store local) stands =
-      by_one (insns.Store kind.Two (slot_of body local)) [] stands.behind stands.insns_fit.0 stands.bytes_are stands.place_is (typed_does (Store local)) (store_agrees file code body p is next local p.numbers is.fits (stands.written local refl) stands.writes_below)
+      by_one (insns.Store kind.Two (slot_of body local)) [] stands.suffix stands.insns_fit.0 stands.bytes_are stands.place_is (typed_does (Store local)) (store_agrees file code body p is next local p.numbers is.fits (stands.written local refl) stands.writes_below)
   family_followed (Inc local amount) stands =
-      by_one (insns.Inc width.Two (slot_of body local) amount) [] stands.behind stands.insns_fit.0 stands.bytes_are stands.place_is (typed_does (Inc local amount)) (inc_agrees file code body p is next local amount stands.reads_below)
+      by_one (insns.Inc width.Two (slot_of body local) amount) [] stands.suffix stands.insns_fit.0 stands.bytes_are stands.place_is (typed_does (Inc local amount)) (inc_agrees file code body p is next local amount stands.reads_below)
   family_followed (Stack form.Pop) stands =
-      by_one (insns.Pop 2) [] stands.behind stands.insns_fit.0 stands.bytes_are stands.place_is (typed_does (Stack form.Pop)) (pop_agrees file code body p is next p.numbers is.fits)
+      by_one (insns.Pop 2) [] stands.suffix stands.insns_fit.0 stands.bytes_are stands.place_is (typed_does (Stack form.Pop)) (pop_agrees file code body p is next p.numbers is.fits)
   family_followed (Stack form.Pop2) stands = absurd (false≢true stands.of_form)
   family_followed (Stack form.Dup) stands = absurd (false≢true stands.of_form)
   family_followed (Stack form.DupX1) stands = absurd (false≢true stands.of_form)
@@ -111,21 +111,21 @@ module _ (file : ClassFile) (code : CodeAttr) (body : Body) (limits : Limits) (p
   family_followed (Stack form.Dup2X2) stands = absurd (false≢true stands.of_form)
   family_followed (Stack form.Swap) stands = absurd (false≢true stands.of_form)
   family_followed (Bin o) stands =
-      by_one (insns.Bin width.Two (operation_of o)) [] stands.behind stands.insns_fit.0 stands.bytes_are stands.place_is (typed_does (Bin o)) (bin_agrees file code body p is next o p.numbers is.fits)
+      by_one (insns.Bin width.Two (operation_of o)) [] stands.suffix stands.insns_fit.0 stands.bytes_are stands.place_is (typed_does (Bin o)) (bin_agrees file code body p is next o p.numbers is.fits)
   family_followed Negate stands =
-      by_one (insns.Neg width.Two) [] stands.behind stands.insns_fit.0 stands.bytes_are stands.place_is (typed_does Negate) (negate_agrees file code body p is next p.numbers is.fits)
-  family_followed (Convert c) stands = converts file code body limits p is next c p.numbers stands.behind is.fits stands.insns_fit stands.bytes_are stands.place_is
+      by_one (insns.Neg width.Two) [] stands.suffix stands.insns_fit.0 stands.bytes_are stands.place_is (typed_does Negate) (negate_agrees file code body p is next p.numbers is.fits)
+  family_followed (Convert c) stands = converts file code body limits p is next c p.numbers stands.suffix is.fits stands.insns_fit stands.bytes_are stands.place_is
   family_followed (If c target) stands =
-      by_one (insns.Jz width.Two (condition_of c) (place_in body target)) [] stands.behind stands.insns_fit.0 stands.bytes_are stands.place_is (typed_does (If c target)) (if_agrees file code body limits p is next (stands.grows (omega arith)) c target p.numbers is.fits)
+      by_one (insns.Jz width.Two (condition_of c) (place_in body target)) [] stands.suffix stands.insns_fit.0 stands.bytes_are stands.place_is (typed_does (If c target)) (if_agrees file code body limits p is next (stands.grows (omega arith)) c target p.numbers is.fits)
   family_followed (IfCmp c target) stands =
-      by_one (insns.JCmp width.Two (condition_of c) (place_in body target)) [] stands.behind stands.insns_fit.0 stands.bytes_are stands.place_is (typed_does (IfCmp c target)) (if_cmp_agrees file code body limits p is next (stands.grows (omega arith)) c target p.numbers is.fits)
+      by_one (insns.JCmp width.Two (condition_of c) (place_in body target)) [] stands.suffix stands.insns_fit.0 stands.bytes_are stands.place_is (typed_does (IfCmp c target)) (if_cmp_agrees file code body limits p is next (stands.grows (omega arith)) c target p.numbers is.fits)
   family_followed (Goto target) stands =
-      by_one (insns.Goto (place_in body target)) [] stands.behind stands.insns_fit.0 stands.bytes_are stands.place_is (typed_does (Goto target)) (jumps_agree file code body limits p is next (stands.grows (omega arith)) target p.numbers is.fits)
+      by_one (insns.Goto (place_in body target)) [] stands.suffix stands.insns_fit.0 stands.bytes_are stands.place_is (typed_does (Goto target)) (jumps_agree file code body limits p is next (stands.grows (omega arith)) target p.numbers is.fits)
   family_followed (Switch switch.Lookup rows default) stands =
-      by_one (insns.Switch width.Two (place_in body default) (length rows)) (map (moved_row (place_in body)) rows) stands.behind stands.insns_fit.0 stands.bytes_are stands.place_is (typed_does (Switch switch.Lookup rows default)) (switch_agrees file code body limits p is next (stands.grows (omega arith)) rows default p.numbers is.fits)
+      by_one (insns.Switch width.Two (place_in body default) (length rows)) (map (moved_row (place_in body)) rows) stands.suffix stands.insns_fit.0 stands.bytes_are stands.place_is (typed_does (Switch switch.Lookup rows default)) (switch_agrees file code body limits p is next (stands.grows (omega arith)) rows default p.numbers is.fits)
   family_followed (Switch switch.Table rows default) stands =
-      by_one (insns.Table width.Two (place_in body default) (low_key rows) (length rows)) (map (moved_row (place_in body)) rows) stands.behind stands.insns_fit.0 stands.bytes_are stands.place_is (typed_does (Switch switch.Table rows default)) (switch_agrees file code body limits p is next (stands.grows (omega arith)) rows default p.numbers is.fits)
+      by_one (insns.Table width.Two (place_in body default) (low_key rows) (length rows)) (map (moved_row (place_in body)) rows) stands.suffix stands.insns_fit.0 stands.bytes_are stands.place_is (typed_does (Switch switch.Table rows default)) (switch_agrees file code body limits p is next (stands.grows (omega arith)) rows default p.numbers is.fits)
   family_followed (CallStatic (OfLibrary native)) stands =
-      by_one (insns.CallS (native_id native)) [] stands.behind stands.insns_fit.0 stands.bytes_are stands.place_is (typed_does (CallStatic (OfLibrary native))) (call_agrees file code body limits p is next native)
+      by_one (insns.CallS (native_id native)) [] stands.suffix stands.insns_fit.0 stands.bytes_are stands.place_is (typed_does (CallStatic (OfLibrary native))) (call_agrees file code body limits p is next native)
   family_followed Return stands =
-      by_one (insns.Ret None) [] stands.behind stands.insns_fit.0 stands.bytes_are stands.place_is (typed_does Return) (endings.Done, refl, tt)
+      by_one (insns.Ret None) [] stands.suffix stands.insns_fit.0 stands.bytes_are stands.place_is (typed_does Return) (endings.Done, refl, tt)

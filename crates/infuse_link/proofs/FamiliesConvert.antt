@@ -31,13 +31,13 @@ use Rattle.infuse_link.proofs.AgreedSteps.{split_step}
 use Rattle.infuse_link.proofs.FamiliesNumber.{AreFitting, moved}
 use Rattle.infuse_link.proofs.ConvertedCells.{short_cell, byte_again, converted-fits, two_steps, three_steps}
 
--- the instruction stands at the offset, and these bytes behind it
-abbrev StandsBefore : Body → ℕ → MInsn → List ℕ → Type 0
-StandsBefore body offset insn behind = drop offset (code_for body) ≡ insn_bytes insn [] ++ behind
+-- the instruction is at the offset, and these bytes after it
+abbrev HoldsBefore : Body → ℕ → MInsn → List ℕ → Type 0
+HoldsBefore body offset insn suffix = drop offset (code_for body) ≡ insn_bytes insn [] ++ suffix
 
--- then they stand at the next offset
-behind_it : (body : Body) (offset : ℕ) (insn : MInsn) (behind : List ℕ) (size : ℕ) → StandsBefore body offset insn behind → drop size (insn_bytes insn [] ++ behind) ≡ behind → drop (offset + size) (code_for body) ≡ behind
-behind_it body offset insn behind size stands dropped = sym (drop-drop size offset (code_for body)) ∙ ap (drop size) stands ∙ dropped
+-- then they are at the next offset
+after_it : (body : Body) (offset : ℕ) (insn : MInsn) (suffix : List ℕ) (size : ℕ) → HoldsBefore body offset insn suffix → drop size (insn_bytes insn [] ++ suffix) ≡ suffix → drop (offset + size) (code_for body) ≡ suffix
+after_it body offset insn suffix size stands dropped = sym (drop-drop size offset (code_for body)) ∙ ap (drop size) stands ∙ dropped
 
 module _ (file : ClassFile) (code : CodeAttr) (body : Body) (limits : Limits) (cells input : List ℕ) (ticks : ℕ) where
   abbrev steps_from : split_state.State → Step split_state.State split_ending.Ending
@@ -47,20 +47,20 @@ module _ (file : ClassFile) (code : CodeAttr) (body : Body) (limits : Limits) (c
   at offset operands = state_at offset cells operands input ticks
 
   -- POP of one cell
-  pop_step : (offset cell : ℕ) (operands behind : List ℕ) → IsInsn (insns.Pop 1) [] → StandsBefore body offset (insns.Pop 1) behind → steps_from (at offset (cell ∷ operands)) ≡ Goes [] (at (offset + 2) operands)
-  pop_step offset cell operands behind is stands =
+  pop_step : (offset cell : ℕ) (operands suffix : List ℕ) → IsInsn (insns.Pop 1) [] → HoldsBefore body offset (insns.Pop 1) suffix → steps_from (at offset (cell ∷ operands)) ≡ Goes [] (at (offset + 2) operands)
+  pop_step offset cell operands suffix is stands =
       let there : nat_le 1 (length (cell ∷ operands)) ≡ true = le-leb _ _ (omega arith) in
-      split_step file code body limits offset cells (cell ∷ operands) input ticks behind (insns.Pop 1) [] is stands
+      split_step file code body limits offset cells (cell ∷ operands) input ticks suffix (insns.Pop 1) [] is stands
       ∙ ap (λ (b : Bool). split.goes_with (at offset (cell ∷ operands)) (frame_at offset cells (cell ∷ operands)) [] (offset + 2) (cond b (Some operands) None)) there
 
-  sx_step : (offset cell : ℕ) (operands behind : List ℕ) → IsInsn insns.Sx [] → StandsBefore body offset insns.Sx behind → steps_from (at offset (cell ∷ operands)) ≡ Goes [] (at (offset + 1) (with_number (sign_extended cell) operands))
-  sx_step offset cell operands behind is stands = split_step file code body limits offset cells (cell ∷ operands) input ticks behind insns.Sx [] is stands
+  sx_step : (offset cell : ℕ) (operands suffix : List ℕ) → IsInsn insns.Sx [] → HoldsBefore body offset insns.Sx suffix → steps_from (at offset (cell ∷ operands)) ≡ Goes [] (at (offset + 1) (with_number (sign_extended cell) operands))
+  sx_step offset cell operands suffix is stands = split_step file code body limits offset cells (cell ∷ operands) input ticks suffix insns.Sx [] is stands
 
-  zx_step : (offset cell : ℕ) (operands behind : List ℕ) → IsInsn insns.Zx [] → StandsBefore body offset insns.Zx behind → steps_from (at offset (cell ∷ operands)) ≡ Goes [] (at (offset + 1) (with_number (pos cell) operands))
-  zx_step offset cell operands behind is stands = split_step file code body limits offset cells (cell ∷ operands) input ticks behind insns.Zx [] is stands
+  zx_step : (offset cell : ℕ) (operands suffix : List ℕ) → IsInsn insns.Zx [] → HoldsBefore body offset insns.Zx suffix → steps_from (at offset (cell ∷ operands)) ≡ Goes [] (at (offset + 1) (with_number (pos cell) operands))
+  zx_step offset cell operands suffix is stands = split_step file code body limits offset cells (cell ∷ operands) input ticks suffix insns.Zx [] is stands
 
-  sb_step : (offset cell : ℕ) (operands behind : List ℕ) → IsInsn insns.Sb [] → StandsBefore body offset insns.Sb behind → steps_from (at offset (cell ∷ operands)) ≡ Goes [] (at (offset + 1) (low_cell (converted conv.Byte (sign_extended cell)) ∷ operands))
-  sb_step offset cell operands behind is stands = split_step file code body limits offset cells (cell ∷ operands) input ticks behind insns.Sb [] is stands
+  sb_step : (offset cell : ℕ) (operands suffix : List ℕ) → IsInsn insns.Sb [] → HoldsBefore body offset insns.Sb suffix → steps_from (at offset (cell ∷ operands)) ≡ Goes [] (at (offset + 1) (low_cell (converted conv.Byte (sign_extended cell)) ∷ operands))
+  sb_step offset cell operands suffix is stands = split_step file code body limits offset cells (cell ∷ operands) input ticks suffix insns.Sb [] is stands
 
 -- the bytes of a conversion
 abbrev pub conversion_bytes : Conv → List ℕ
@@ -80,47 +80,47 @@ module _ (file : ClassFile) (code : CodeAttr) (body : Body) (limits : Limits) (p
         split_is = ap (λ (at : ℕ). state_at at p.cells (with_number pushed (cells_of numbers)) p.input p.ticks) (sym place_is) ∙ ap (λ (z : ℤ). state_at (place_in body next) p.cells (with_number z (cells_of numbers)) p.input p.ticks) pushed_is;
       }
 
-  pub converts : (c : Conv) (numbers : List ℤ) (behind : List ℕ) → AreFitting numbers → AllByRecursion (λ e. IsInsn e.0 e.1) (conversion c) → drop (place_in body p.pc) (code_for body) ≡ conversion_bytes c ++ behind → place_in body next ≡ place_in body p.pc + length (conversion_bytes c) → Follow numbers c
-  converts c [] behind fits are stands place_is = tt
-  converts conv.Byte (number ∷ numbers) behind (fit, fits) (pop, (sb, (sx, _))) stands place_is =
+  pub converts : (c : Conv) (numbers : List ℤ) (suffix : List ℕ) → AreFitting numbers → AllByRecursion (λ e. IsInsn e.0 e.1) (conversion c) → drop (place_in body p.pc) (code_for body) ≡ conversion_bytes c ++ suffix → place_in body next ≡ place_in body p.pc + length (conversion_bytes c) → Follow numbers c
+  converts c [] suffix fits are stands place_is = tt
+  converts conv.Byte (number ∷ numbers) suffix (fit, fits) (pop, (sb, (sx, _))) stands place_is =
       let offset = place_in body p.pc in
       let rest = cells_of numbers in
       let low = low_cell number in
       let byte = low_cell (converted conv.Byte (sign_extended low)) in
-      let second : drop (offset + 2) (code_for body) ≡ 0x43 ∷ 0x41 ∷ behind = behind_it body offset (insns.Pop 1) (0x43 ∷ 0x41 ∷ behind) 2 stands refl in
-      let third : drop (offset + 2 + 1) (code_for body) ≡ 0x41 ∷ behind = behind_it body (offset + 2) insns.Sb (0x41 ∷ behind) 1 second refl in
+      let second : drop (offset + 2) (code_for body) ≡ 0x43 ∷ 0x41 ∷ suffix = after_it body offset (insns.Pop 1) (0x43 ∷ 0x41 ∷ suffix) 2 stands refl in
+      let third : drop (offset + 2 + 1) (code_for body) ≡ 0x41 ∷ suffix = after_it body (offset + 2) insns.Sb (0x41 ∷ suffix) 1 second refl in
       λ said. record {
         steps = 3;
         next = state_at (offset + 2 + 1 + 1) p.cells (with_number (sign_extended byte) rest) p.input p.ticks;
         running = three_steps (split.machine (image_of file code body) limits) said (state_at offset p.cells (cells_of (number ∷ numbers)) p.input p.ticks) (state_at (offset + 2) p.cells (low ∷ rest) p.input p.ticks) (state_at (offset + 2 + 1) p.cells (byte ∷ rest) p.input p.ticks) (state_at (offset + 2 + 1 + 1) p.cells (with_number (sign_extended byte) rest) p.input p.ticks)
-            (pop_step file code body limits p.cells p.input p.ticks offset (high_cell number) (low ∷ rest) (0x43 ∷ 0x41 ∷ behind) pop stands)
-            (sb_step file code body limits p.cells p.input p.ticks (offset + 2) low rest (0x41 ∷ behind) sb second)
-            (sx_step file code body limits p.cells p.input p.ticks (offset + 2 + 1) byte rest behind sx third);
+            (pop_step file code body limits p.cells p.input p.ticks offset (high_cell number) (low ∷ rest) (0x43 ∷ 0x41 ∷ suffix) pop stands)
+            (sb_step file code body limits p.cells p.input p.ticks (offset + 2) low rest (0x41 ∷ suffix) sb second)
+            (sx_step file code body limits p.cells p.input p.ticks (offset + 2 + 1) byte rest suffix sx third);
         holds = arrives conv.Byte number (sign_extended byte) numbers (offset + 2 + 1 + 1) fits (byte_again number fit) (omega (arith, place_is));
       }
-  converts conv.Short (number ∷ numbers) behind (fit, fits) (pop, (sx, _)) stands place_is =
+  converts conv.Short (number ∷ numbers) suffix (fit, fits) (pop, (sx, _)) stands place_is =
       let offset = place_in body p.pc in
       let rest = cells_of numbers in
       let low = low_cell number in
-      let second : drop (offset + 2) (code_for body) ≡ 0x41 ∷ behind = behind_it body offset (insns.Pop 1) (0x41 ∷ behind) 2 stands refl in
+      let second : drop (offset + 2) (code_for body) ≡ 0x41 ∷ suffix = after_it body offset (insns.Pop 1) (0x41 ∷ suffix) 2 stands refl in
       λ said. record {
         steps = 2;
         next = state_at (offset + 2 + 1) p.cells (with_number (sign_extended low) rest) p.input p.ticks;
         running = two_steps (split.machine (image_of file code body) limits) said (state_at offset p.cells (cells_of (number ∷ numbers)) p.input p.ticks) (state_at (offset + 2) p.cells (low ∷ rest) p.input p.ticks) (state_at (offset + 2 + 1) p.cells (with_number (sign_extended low) rest) p.input p.ticks)
-            (pop_step file code body limits p.cells p.input p.ticks offset (high_cell number) (low ∷ rest) (0x41 ∷ behind) pop stands)
-            (sx_step file code body limits p.cells p.input p.ticks (offset + 2) low rest behind sx second);
+            (pop_step file code body limits p.cells p.input p.ticks offset (high_cell number) (low ∷ rest) (0x41 ∷ suffix) pop stands)
+            (sx_step file code body limits p.cells p.input p.ticks (offset + 2) low rest suffix sx second);
         holds = arrives conv.Short number (sign_extended low) numbers (offset + 2 + 1) fits (short_cell number fit) (omega (arith, place_is));
       }
-  converts conv.Char (number ∷ numbers) behind (fit, fits) (pop, (zx, _)) stands place_is =
+  converts conv.Char (number ∷ numbers) suffix (fit, fits) (pop, (zx, _)) stands place_is =
       let offset = place_in body p.pc in
       let rest = cells_of numbers in
       let low = low_cell number in
-      let second : drop (offset + 2) (code_for body) ≡ 0x42 ∷ behind = behind_it body offset (insns.Pop 1) (0x42 ∷ behind) 2 stands refl in
+      let second : drop (offset + 2) (code_for body) ≡ 0x42 ∷ suffix = after_it body offset (insns.Pop 1) (0x42 ∷ suffix) 2 stands refl in
       λ said. record {
         steps = 2;
         next = state_at (offset + 2 + 1) p.cells (with_number (pos low) rest) p.input p.ticks;
         running = two_steps (split.machine (image_of file code body) limits) said (state_at offset p.cells (cells_of (number ∷ numbers)) p.input p.ticks) (state_at (offset + 2) p.cells (low ∷ rest) p.input p.ticks) (state_at (offset + 2 + 1) p.cells (with_number (pos low) rest) p.input p.ticks)
-            (pop_step file code body limits p.cells p.input p.ticks offset (high_cell number) (low ∷ rest) (0x42 ∷ behind) pop stands)
-            (zx_step file code body limits p.cells p.input p.ticks (offset + 2) low rest behind zx second);
+            (pop_step file code body limits p.cells p.input p.ticks offset (high_cell number) (low ∷ rest) (0x42 ∷ suffix) pop stands)
+            (zx_step file code body limits p.cells p.input p.ticks (offset + 2) low rest suffix zx second);
         holds = arrives conv.Char number (pos low) numbers (offset + 2 + 1) fits refl (omega (arith, place_is));
       }

@@ -10,7 +10,7 @@ use Rattle.cell_num.specs.Cells.{low_cell, high_cell, joined_cells}
 use Rattle.cell_num.specs.Conditions.{is_met}
 use Rattle.dialogue.specs.Dialogue.{Get, putting}
 use Rattle.dialogue.specs.Limits.{Limits}
-use Rattle.dialogue.specs.Natives.{low_byte, next_byte, behind_byte}
+use Rattle.dialogue.specs.Natives.{low_byte, next_byte, after_byte}
 use Rattle.dialogue.specs.Run.{Step, Goes, Ends}
 use Rattle.class_file.specs.declared.record.ClassFile.{ClassFile}
 use Rattle.class_file.specs.declared.record.CodeAttr.{CodeAttr}
@@ -79,7 +79,7 @@ module _ (file : ClassFile) (code : CodeAttr) (body : Body) (limits : Limits) (p
       where
         by_order : (p.pc < to) ⊎ (to ≤ p.pc) → nat_lt (place_in body p.pc) (place_in body to) ≡ nat_lt p.pc to
         by_order (inl before) = lt-ltb (place_in body p.pc) (place_in body to) (grows to before) ∙ sym (lt-ltb p.pc to before)
-        by_order (inr behind) = le-ltb (place_in body p.pc) (place_in body to) (place_keeps (slot_of body) body p.pc to behind) ∙ sym (le-ltb p.pc to behind)
+        by_order (inr suffix) = le-ltb (place_in body p.pc) (place_in body to) (place_keeps (slot_of body) body p.pc to suffix) ∙ sym (le-ltb p.pc to suffix)
 
     abbrev jumps : Bool → ℕ → List ℕ → Step split_state.State split_ending.Ending
     jumps forward target operands =
@@ -133,7 +133,7 @@ module _ (file : ClassFile) (code : CodeAttr) (body : Body) (limits : Limits) (p
 
   read_agrees : Both (typed.step_read limits.ticks (typed_at p) (typed_frame p) [] next) (split.step_read limits (split_at body p) (split_frame body p) [] (place_in body next))
   read_agrees =
-      let after = record p { pc = next; numbers = next_byte p.input ∷ p.numbers; input = behind_byte p.input; ticks = p.ticks + 1 } in
+      let after = record p { pc = next; numbers = next_byte p.input ∷ p.numbers; input = after_byte p.input; ticks = p.ticks + 1 } in
       within (nat_le (p.ticks + 1) limits.ticks) (Goes (Get ∷ []) (typed_at after)) (Goes (Get ∷ []) (split_at body after))
       (split_at body after, refl, record { point = after; is_point = record { fits = (read_fits p.input, is.fits); places = is.places; count = is.count; bits = is.bits; set = is.set }; typed_is = refl; split_is = refl })
 

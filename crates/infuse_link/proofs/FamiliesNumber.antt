@@ -51,7 +51,7 @@ op_again op.Xor = refl
 pub joined : (number : ℤ) → FitsSigned w32 number → joined_cells (low_cell number) (high_cell number) ≡ number
 joined number fits = joined_cells-split number fits
 
--- the point behind, with these operands
+-- the point after, with these operands
 abbrev pub moved : Point → ℕ → List ℤ → Point
 moved p next numbers = record p { pc = next; numbers = numbers }
 

@@ -43,14 +43,14 @@ module _ (files : List (List ℕ)) (file : ClassFile) (code : CodeAttr) (body : 
   main = accepted.number_file.main
 
   -- what is known of the family at a pc
-  stands_at : (pc : ℕ) (placed : Placed) → placed_in body (length code.code) pc ≡ Some placed → Stands code body pc placed.next placed.family
-  stands_at pc placed found =
+  holds_at : (pc : ℕ) (placed : Placed) → placed_in body (length code.code) pc ≡ Some placed → Stands code body pc placed.next placed.family
+  holds_at pc placed found =
       let contains = placed_contains body (length code.code) pc placed found in
       let bytes = code_at files file code body accepted pc placed.family contains in
       record {
         of_form = of_each (λ x. is_of_form x.1 ≡ true) body (pc, placed.family) main.form.families contains;
         insns_fit = family_fits files file code body accepted pc placed.family contains;
-        behind = bytes.0;
+        suffix = bytes.0;
         bytes_are = bytes.1;
         place_is = next_place files file code body accepted pc placed found;
         grows = λ some to before. place_grows files file code body accepted pc to placed found some before;
@@ -67,7 +67,7 @@ module _ (files : List (List ℕ)) (file : ClassFile) (code : CodeAttr) (body : 
 
     at_placed : (p : Point) → IsPoint code body p → (found : Option Placed) → placed_in body (length code.code) p.pc ≡ found → FollowedAt p (typed.step_placed (program_of file) limits.ticks (typed_at p) (typed_frame p) [] found)
     at_placed p is None found_is = tt
-    at_placed p is (Some placed) found_is = family_followed file code body limits (program_of file) p is placed.next placed.family (stands_at p.pc placed found_is)
+    at_placed p is (Some placed) found_is = family_followed file code body limits (program_of file) p is placed.next placed.family (holds_at p.pc placed found_is)
 
     at_point : (p : Point) → IsPoint code body p → FollowedAt p (typed.step (program_of file) limits.ticks (typed_at p))
     at_point p is =

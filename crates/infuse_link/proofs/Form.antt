@@ -5,7 +5,7 @@ use Rattle.std.proofs.lemmas.Bool.{false≢true}
 use Rattle.std.proofs.lemmas.Bool.Decides.{Decides-eqb, nat_tests}
 use Rattle.jvm_model.specs.Program.{Family}
 use Rattle.jvm_model.specs.Body.{Body}
-use Rattle.jvm_model.specs.NumberForm.{pops, height_behind, is_jump, is_final, reads, writes, is_in, with_one, IsBalanced, EndsThere, AreWritten, IsIn, IsBelow}
+use Rattle.jvm_model.specs.NumberForm.{pops, height_after, is_jump, is_final, reads, writes, is_in, with_one, IsBalanced, EndsThere, AreWritten, IsIn, IsBelow}
 use Rattle.jvm_model.specs.FrameCells.{greatest_height}
 use Rattle.infuse_link.specs.Tests.{fits, heights, ends_from, is_below, locals_fit, locals_below, is_known, are_written}
 use Rattle.infuse_link.proofs.Loops.{and_parts}
@@ -69,8 +69,8 @@ locals_pass most (x ∷ body) read written =
 pub record Fit (most : ℕ) (arrives : Bool) (height : ℕ) (family : Family) : Type 0 where
   pub arrived : arrives ≡ true → height ≡ 0
   pub popped : pops family ≤ height
-  pub low : height_behind height family ≤ most
-  pub left : (is_jump family || is_final family) ≡ true → height_behind height family ≡ 0
+  pub low : height_after height family ≤ most
+  pub left : (is_jump family || is_final family) ≡ true → height_after height family ≡ 0
 
 unless_zero : (b : Bool) (n : ℕ) → (not b || eqb n 0) ≡ true → b ≡ true → n ≡ 0
 unless_zero true n e holds = (Decides-eqb n 0).0 e
@@ -82,15 +82,15 @@ zero_or_not false n e holds = absurd (false≢true holds)
 
 pub fits_so : (most : ℕ) (arrives : Bool) (height : ℕ) (family : Family) → fits most arrives height family ≡ true → Fit most arrives height family
 fits_so most arrives height family e =
-    let behind = height_behind height family in
-    let a = and_parts (not arrives || eqb height 0) (leb (pops family) height && (leb behind most && (eqb behind 0 || not (is_jump family || is_final family)))) e in
-    let b = and_parts (leb (pops family) height) (leb behind most && (eqb behind 0 || not (is_jump family || is_final family))) a.1 in
-    let c = and_parts (leb behind most) (eqb behind 0 || not (is_jump family || is_final family)) b.1 in
+    let suffix = height_after height family in
+    let a = and_parts (not arrives || eqb height 0) (leb (pops family) height && (leb suffix most && (eqb suffix 0 || not (is_jump family || is_final family)))) e in
+    let b = and_parts (leb (pops family) height) (leb suffix most && (eqb suffix 0 || not (is_jump family || is_final family))) a.1 in
+    let c = and_parts (leb suffix most) (eqb suffix 0 || not (is_jump family || is_final family)) b.1 in
     record {
       arrived = unless_zero arrives height a.0;
       popped = grind (arith, nat_tests, b.0);
       low = grind (arith, nat_tests, c.0);
-      left = zero_or_not (is_jump family || is_final family) behind c.1;
+      left = zero_or_not (is_jump family || is_final family) suffix c.1;
     }
 
 zero_passes : (b : Bool) (n : ℕ) → (b ≡ true → n ≡ 0) → (not b || eqb n 0) ≡ true
@@ -103,12 +103,12 @@ zero_passes_not false n zero = or_true (eqb n 0)
 
 pub fit_passes : (most : ℕ) (arrives : Bool) (height : ℕ) (family : Family) → Fit most arrives height family → fits most arrives height family ≡ true
 fit_passes most arrives height family fit =
-    let behind = height_behind height family in
+    let suffix = height_after height family in
     let popped : leb (pops family) height ≡ true = grind (arith, nat_tests, fit.popped) in
-    let low : leb behind most ≡ true = grind (arith, nat_tests, fit.low) in
-    let rest = eqb behind 0 || not (is_jump family || is_final family) in
-    ap (λ b. b && (leb (pops family) height && (leb behind most && rest))) (zero_passes arrives height fit.arrived)
-    ∙ ap (λ b. b && (leb behind most && rest)) popped ∙ ap (λ b. b && rest) low ∙ zero_passes_not (is_jump family || is_final family) behind fit.left
+    let low : leb suffix most ≡ true = grind (arith, nat_tests, fit.low) in
+    let rest = eqb suffix 0 || not (is_jump family || is_final family) in
+    ap (λ b. b && (leb (pops family) height && (leb suffix most && rest))) (zero_passes arrives height fit.arrived)
+    ∙ ap (λ b. b && (leb suffix most && rest)) popped ∙ ap (λ b. b && rest) low ∙ zero_passes_not (is_jump family || is_final family) suffix fit.left
 
 none_some : (n : ℕ) → None ≡ Some n → ⊥
 none_some n e = cc
@@ -132,9 +132,9 @@ module _ (most : ℕ) (arrives : ℕ → Bool) (arrivals : List ℕ) (same : (n 
       elim (fits most (arrives x.0) height x.1) as (λ b. (fits most (arrives x.0) height x.1 ≡ b → IsBalanced most arrivals height (x ∷ body) × (told ≡ max greatest (greatest_height height (x ∷ body))))) [
         | true ↦ λ passes.
             let fit = fits_so most (arrives x.0) height x.1 passes in
-            let behind = height_behind height x.1 in
-            let rest = heights_so behind (max greatest behind) told body (omega arith) (sym (heights_more most arrives height greatest x body passes) ∙ e) in
-            let least : behind ≤ greatest_height behind body = greatest_least behind body in
+            let suffix = height_after height x.1 in
+            let rest = heights_so suffix (max greatest suffix) told body (omega arith) (sym (heights_more most arrives height greatest x body passes) ∙ e) in
+            let least : suffix ≤ greatest_height suffix body = greatest_least suffix body in
             ((λ here. fit.arrived (same x.0 ∙ here), fit.popped, fit.low, fit.left, rest.0), omega (arith, rest.1, le, least))
         | false ↦ λ fails. absurd (none_some told (sym (heights_none most arrives height greatest x body fails) ∙ e))
       ] refl
@@ -143,7 +143,7 @@ module _ (most : ℕ) (arrives : ℕ → Bool) (arrivals : List ℕ) (same : (n 
   heights_pass height greatest [] balanced e = some_none greatest (sym (heights_end most arrives height greatest) ∙ e)
   heights_pass height greatest (x ∷ body) balanced e =
       let passes = fit_passes most (arrives x.0) height x.1 (record { arrived = λ here. balanced.0 (sym (same x.0) ∙ here); popped = balanced.1; low = balanced.2; left = balanced.3 }) in
-      heights_pass (height_behind height x.1) (max greatest (height_behind height x.1)) body balanced.4 (sym (heights_more most arrives height greatest x body passes) ∙ e)
+      heights_pass (height_after height x.1) (max greatest (height_after height x.1)) body balanced.4 (sym (heights_more most arrives height greatest x body passes) ∙ e)
 
   -- ---- locals that are written before they are read
 
@@ -155,8 +155,8 @@ module _ (most : ℕ) (arrives : ℕ → Bool) (arrivals : List ℕ) (same : (n 
   known_passes written None e = refl
   known_passes written (Some number) e = e
 
-  abbrev Behind : Bool → List ℕ → ℕ × Family → Body → Bool → Type 0
-  Behind straight written x body b = AreWritten arrivals ((straight && not b) && not (is_jump x.1)) (with_one (straight && not b) (writes x.1) written) body
+  abbrev Suffix : Bool → List ℕ → ℕ × Family → Body → Bool → Type 0
+  Suffix straight written x body b = AreWritten arrivals ((straight && not b) && not (is_jump x.1)) (with_one (straight && not b) (writes x.1) written) body
 
   pub written_so : (straight : Bool) (written : List ℕ) (body : Body) → are_written arrives straight written body ≡ true → AreWritten arrivals straight written body
   written_so straight written [] e = tt
@@ -164,7 +164,7 @@ module _ (most : ℕ) (arrives : ℕ → Bool) (arrivals : List ℕ) (same : (n 
       elim (is_known written (reads x.1)) as (λ b. (is_known written (reads x.1) ≡ b → AreWritten arrivals straight written (x ∷ body))) [
         | true ↦ λ known. (
           known_so written (reads x.1) known,
-          subst (Behind straight written x body) (same x.0)
+          subst (Suffix straight written x body) (same x.0)
               (written_so ((straight && not (arrives x.0)) && not (is_jump x.1)) (with_one (straight && not (arrives x.0)) (writes x.1) written) body (sym (written_more arrives straight written x body known) ∙ e)),
         )
         | false ↦ λ unknown. absurd (false≢true (sym (written_none arrives straight written x body unknown) ∙ e))
@@ -174,4 +174,4 @@ module _ (most : ℕ) (arrives : ℕ → Bool) (arrivals : List ℕ) (same : (n 
   written_passes straight written [] all = written_end arrives straight written
   written_passes straight written (x ∷ body) all =
       written_more arrives straight written x body (known_passes written (reads x.1) all.0)
-      ∙ written_passes ((straight && not (arrives x.0)) && not (is_jump x.1)) (with_one (straight && not (arrives x.0)) (writes x.1) written) body (subst (Behind straight written x body) (sym (same x.0)) all.1)
+      ∙ written_passes ((straight && not (arrives x.0)) && not (is_jump x.1)) (with_one (straight && not (arrives x.0)) (writes x.1) written) body (subst (Suffix straight written x body) (sym (same x.0)) all.1)

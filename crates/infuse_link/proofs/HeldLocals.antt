@@ -38,7 +38,7 @@ written_by [] pc family local has e = absurd has
 written_by ((at, other) ∷ body) pc family local has e =
     elim has [
       | inl same ↦ or_left (is_number local (writes other)) (is_written body local) (number-is local (writes other) (ap writes same.1 ∙ e))
-      | inr behind ↦ or_right (is_number local (writes other)) (is_written body local) (written_by body pc family local behind e)
+      | inr suffix ↦ or_right (is_number local (writes other)) (is_written body local) (written_by body pc family local suffix e)
     ]
 
 one_more : (counts : Bool) (o : Option ℕ) (numbers : List ℕ) (local : ℕ) → is_in (with_one counts o numbers) local ≡ true → (is_in numbers local ≡ true) ⊎ (o ≡ Some local)
@@ -71,7 +71,7 @@ read_in whole arrivals straight written ((at, other) ∷ body) known within are 
     ] in
     elim has [
       | inl same ↦ known local (in-some written (reads other) local (ap reads same.1 ∙ e) are.0)
-      | inr behind ↦ read_in whole arrivals (counts && not (is_jump other)) (with_one counts (writes other) written) body next (λ pc family rest. within pc family (inr rest)) are.1 pc family local behind e
+      | inr suffix ↦ read_in whole arrivals (counts && not (is_jump other)) (with_one counts (writes other) written) body next (λ pc family rest. within pc family (inr rest)) are.1 pc family local suffix e
     ]
 
 -- ---- the locals of a form

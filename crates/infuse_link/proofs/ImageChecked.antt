@@ -56,7 +56,7 @@ module _ (files : List (List ℕ)) (file : ClassFile) (code : CodeAttr) (body : 
   lands : (pc : ℕ) (family : Family) → Has body pc family → AllByRecursion (λ to. LandsIn (image_of file code body) (instructions body) (offset_of (slot_of body) body to)) (targets family)
   lands pc family has =
       let read = decoded files file code body accepted in
-      let stand = all_has (λ x. AllByRecursion (λ to. (family : Family) × Has body to family) (targets x.1)) body pc family read.targets_stand has in
+      let stand = all_has (λ x. AllByRecursion (λ to. (family : Family) × Has body to family) (targets x.1)) body pc family read.targets_hold has in
       let arrive = targets-in body pc family has in
       all_weaker (λ to. ((family : Family) × Has body to family) × (is_in (all_targets body) to ≡ true)) (λ to. LandsIn (image_of file code body) (instructions body) (offset_of (slot_of body) body to)) (λ to both.
       let entered = target-entered (slot_of body) (offset_of (slot_of body) body) (image_of file code body) code.max_stack (all_targets body) 0 0 0 (length code.code) body to both.0.0 read.rises form.balanced form.families form.ends both.1 both.0.1 in

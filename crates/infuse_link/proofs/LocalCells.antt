@@ -63,7 +63,7 @@ module _ (body : Body) (locals : List (Option Value)) (cells : List ℕ) (at : �
       }
 
   apart : (local : ℕ) → is_written body local ≡ true → (local ≡ at → ⊥) → (slot_of body local + 2 ≤ slot_of body at) ⊎ (slot_of body at + 2 ≤ slot_of body local)
-  apart local set other = elim (cases_order local at) [ inl same ↦ absurd (other same) | inr (inl before) ↦ inl (slots_apart body local at set before) | inr (inr behind) ↦ inr (slots_apart body at local written behind) ]
+  apart local set other = elim (cases_order local at) [ inl same ↦ absurd (other same) | inr (inl before) ↦ inl (slots_apart body local at set before) | inr (inr suffix) ↦ inr (slots_apart body at local written suffix) ]
 
   untouched : (other : ℕ) → (other ≡ slot_of body at → ⊥) → (other ≡ slot_of body at + 1 → ⊥) → slice_get after other ≡ slice_get cells other
   untouched other p q =

@@ -14,11 +14,11 @@ use Rattle.infuse_link.specs.declared.number_insn.NumberInsn.TheVariants.{Nop}
 abbrev pub nothing : ℕ × NumberInsn
 nothing = (0, Nop)
 
-pub front : {X : Type 0} (xs : List X) (i : ℕ) (d : X) → i < length xs → drop i xs ≡ get_or xs i d ∷ drop (i + 1) xs
-front xs i d lt = drop-cons xs i d lt ∙ ap (λ n. get_or xs i d ∷ drop n xs) (sym (add-one i))
+pub prefix : {X : Type 0} (xs : List X) (i : ℕ) (d : X) → i < length xs → drop i xs ≡ get_or xs i d ∷ drop (i + 1) xs
+prefix xs i d lt = drop-cons xs i d lt ∙ ap (λ n. get_or xs i d ∷ drop n xs) (sym (add-one i))
 
 pub stepped : {X Y : Type 0} (f : List X → Y) (xs : List X) (i : ℕ) (d : X) → i < length xs → f (drop i xs) ≡ f (get_or xs i d ∷ drop (i + 1) xs)
-stepped f xs i d lt = ap f (front xs i d lt)
+stepped f xs i d lt = ap f (prefix xs i d lt)
 
 pub ended : {X Y : Type 0} (f : List X → Y) (xs : List X) (i : ℕ) → length xs ≤ i → f (drop i xs) ≡ f []
 ended f xs i le = ap f (drop_all i xs le)
@@ -27,7 +27,7 @@ pub and_parts : (a b : Bool) → (a && b) ≡ true → (a ≡ true) × (b ≡ tr
 and_parts true b e = (refl, e)
 and_parts false b e = absurd (false≢true e)
 
--- one more element behind those that fill a list
+-- one more element after those that fill a list
 pub filled_more : {X : Type 0} (xs ys : List X) (n : ℕ) (x : X) → ys ≡ xs ++ replicate n x → ys ++ x ∷ [] ≡ xs ++ replicate (n + 1) x
 filled_more xs ys n x e = ap (λ zs. zs ++ x ∷ []) e ∙ append_assoc xs (replicate n x) (x ∷ []) ∙ ap (λ zs. xs ++ zs) (replicate-append-replicate n 1 x)
 

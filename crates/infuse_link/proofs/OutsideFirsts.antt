@@ -4,7 +4,7 @@ use Rattle.std.proofs.Common.{◌≡◌, inl, inr, ℕ, suc, ◌+◌, ◌<◌, �
 use Rattle.std.specs.Prelude.{Ok}
 use Rattle.std.proofs.lemmas.List.{drop_all}
 use Rattle.std.proofs.lemmas.Bool.{false≢true}
-use Rattle.class_pool.specs.Pool.{Places}
+use Rattle.class_pool.specs.Pool.{Slots}
 use Rattle.class_file.specs.declared.record.ClassFile.{ClassFile}
 use Rattle.class_file.specs.declared.record.CodeAttr.{CodeAttr}
 use Rattle.class_file.specs.declared.record.HandlerRow.{HandlerRow}
@@ -25,7 +25,7 @@ use Rattle.infuse_link.proofs.Scans.{from_place}
 -- ---- the steps of a scan
 
 module _ {X : Type 0} (Has : ℕ → X → Option Refusal → Type 0) where
-  -- one that has no refusal leaves it to those behind it
+  -- one that has no refusal leaves it to those after it
   pub first_passed : (place : ℕ) (x : X) (xs : List X) (found : Option Refusal) → Has place x None → FirstOf Has (suc place) xs found → FirstOf Has place (x ∷ xs) found
   first_passed place x xs None none first = (none, first)
   first_passed place x xs (Some why) none first = inr (none, first)
@@ -61,7 +61,7 @@ inside_plain : (reached plain : Bool) → (not reached || plain) ≡ true → re
 inside_plain true plain e is = e
 inside_plain false plain e is = absurd (false≢true is)
 
-module _ (file member : ℕ) (pool : Places) (ways : Ways) (reached : ℕ → Bool) (tells : TellsReached ways reached) where
+module _ (file member : ℕ) (pool : Slots) (ways : Ways) (reached : ℕ → Bool) (tells : TellsReached ways reached) where
   abbrev refusal : ℕ × Insn → Refusal
   refusal x = unbuilt_at file member x.0
 
@@ -97,7 +97,7 @@ there_is : {X : Type 0} (Has : X → Option Refusal → Type 0) (o : Option X) (
 there_is {X = X} Has o x found is has = subst (λ (p : Option X). IfThere Has p found) (sym is) has
 
 -- the instructions of some code that is decoded
-pub code_outside : (file member : ℕ) (pool : Places) (code : CodeAttr) (rows : List HandlerRow) (insns : Insns) (found : Option Refusal) → rows ≡ code.handlers → decoded code.code ≡ Ok insns → OutsideInsns file member pool rows insns found
+pub code_outside : (file member : ℕ) (pool : Slots) (code : CodeAttr) (rows : List HandlerRow) (insns : Insns) (found : Option Refusal) → rows ≡ code.handlers → decoded code.code ≡ Ok insns → OutsideInsns file member pool rows insns found
     → OutsideCode file member pool code found
 code_outside file member pool code rows insns found same is has =
     there_is (OutsideInsns file member pool code.handlers) (insns_in (decoded code.code)) insns found (ap insns_in is) (subst (λ (list : List HandlerRow). OutsideInsns file member pool list insns found) same has)
@@ -113,8 +113,8 @@ first_read place [] (class ∷ classes) found all first = absurd all
 first_read place (bytes ∷ files) [] found all first = absurd all
 first_read place (bytes ∷ files) (class ∷ classes) None all first = (file_outside place bytes class None (file_again bytes class all.0) first.0, first_read (suc place) files classes None all.1 first.1)
 first_read place (bytes ∷ files) (class ∷ classes) (Some why) all (inl here) = inl (file_outside place bytes class (Some why) (file_again bytes class all.0) here)
-first_read place (bytes ∷ files) (class ∷ classes) (Some why) all (inr behind) =
-    inr (file_outside place bytes class None (file_again bytes class all.0) behind.0, first_read (suc place) files classes (Some why) all.1 behind.1)
+first_read place (bytes ∷ files) (class ∷ classes) (Some why) all (inr suffix) =
+    inr (file_outside place bytes class None (file_again bytes class all.0) suffix.0, first_read (suc place) files classes (Some why) all.1 suffix.1)
 
 -- the classes name what the files name
 pub named_read : (files : List (List ℕ)) (classes : List ClassFile) (refusal : Refusal) → AreRead files classes → NamesFirst OutsideClass classes refusal → NamesFirst OutsideFile files refusal

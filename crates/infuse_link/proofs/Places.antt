@@ -37,9 +37,9 @@ offset_before slot x body pc le =
     let fails : ltb x.0 pc ≡ false = grind (arith, nat_tests, le) in
     ap (λ b. cond b (size_of slot x.1 + offset_of slot body pc) 0) fails
 
-pub offset_behind : (slot : ℕ → ℕ) (x : ℕ × Family) (body : Body) (pc : ℕ) → x.0 < pc → offset_of slot (x ∷ body) pc ≡ size_of slot x.1 + offset_of slot body pc
+pub offset_next : (slot : ℕ → ℕ) (x : ℕ × Family) (body : Body) (pc : ℕ) → x.0 < pc → offset_of slot (x ∷ body) pc ≡ size_of slot x.1 + offset_of slot body pc
 unfolding offset_of
-offset_behind slot x body pc lt =
+offset_next slot x body pc lt =
     let passes : ltb x.0 pc ≡ true = grind (arith, nat_tests, lt) in
     ap (λ b. cond b (size_of slot x.1 + offset_of slot body pc) 0) passes
 
@@ -66,9 +66,9 @@ module _ (slot : ℕ → ℕ) (all : Body) (xs ys : List ℕ) (bytes : ℕ) (x :
   pub above_more : (pc : ℕ) → length ys ≤ pc → (bytes + size_of slot x.1) + offset_of slot body pc ≡ offset_of slot all pc
   above_more pc le =
       let size = filled_length xs ys (x.0 + 1) bytes filled in
-      let behind = offset_behind slot x body pc (omega (arith, size, le)) in
+      let suffix = offset_next slot x body pc (omega (arith, size, le)) in
       let so_far = above pc (omega (arith, size, le)) in
-      omega (arith, behind, so_far)
+      omega (arith, suffix, so_far)
 
 pub places_told : (slot : ℕ → ℕ) (all : Body) (xs : List ℕ) (bytes : ℕ) → ((pc : ℕ) → pc < length xs → get_or xs pc 0 ≡ offset_of slot all pc)
     → ((pc : ℕ) → length xs ≤ pc → bytes + offset_of slot [] pc ≡ offset_of slot all pc) → (pc : ℕ) → get_or xs pc bytes ≡ offset_of slot all pc

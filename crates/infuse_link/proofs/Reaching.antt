@@ -28,7 +28,7 @@ pub record Reaching (ways : Ways) (state : Reached) : Type 0 where
 
 in_all : (P : ℕ → Type 0) (xs : List ℕ) (n : ℕ) → AllByRecursion P xs → is_in xs n ≡ true → P n
 in_all P [] n all e = absurd (false≢true e)
-in_all P (x ∷ xs) n all e = elim (or_parts (eqb x n) (is_in xs n) e) [ inl here ↦ subst P ((Decides-eqb x n).0 here) all.0 | inr behind ↦ in_all P xs n all.1 behind ]
+in_all P (x ∷ xs) n all e = elim (or_parts (eqb x n) (is_in xs n) e) [ inl here ↦ subst P ((Decides-eqb x n).0 here) all.0 | inr suffix ↦ in_all P xs n all.1 suffix ]
 
 -- ---- the start
 

@@ -31,7 +31,7 @@ pub index_told : {X : Type 0} (firsts : List ℕ) (placed : List (ℕ × X)) (pc
 index_told firsts placed pc are =
     elim (cases_lt pc (length firsts)) [
       | inl less ↦ ap (λ i. drop i placed) (get_or-any firsts pc (length placed) 0 less) ∙ are.within pc less
-      | inr le ↦ ap (λ i. drop i placed) (get_or_past firsts pc (length placed) le) ∙ drop_all (length placed) placed (omega arith) ∙ sym (are.behind pc le)
+      | inr le ↦ ap (λ i. drop i placed) (get_or_past firsts pc (length placed) le) ∙ drop_all (length placed) placed (omega arith) ∙ sym (are.suffix pc le)
     ]
 
 module _ {X : Type 0} (all : List (ℕ × X)) (xs ys : List ℕ) (i : ℕ) (x : ℕ × X) (rest : List (ℕ × X))
@@ -66,7 +66,7 @@ pub none_below : {X : Type 0} (low pc : ℕ) (placed : List (ℕ × X)) → Rise
 none_below low pc [] rise lt = tt
 none_below low pc (x ∷ placed) rise lt = (λ e. omega (arith, e, lt, rise.0), none_below low pc placed (rises_weaker low (suc x.0) placed (omega (arith, rise.0)) rise.1) lt)
 
--- a view of what stands at each pc leaves the pcs
+-- a view of what is at each pc leaves the pcs
 pub rises_map : {X Y : Type 0} (view : X → Y) (low : ℕ) (placed : List (ℕ × X)) → RisesFrom low placed → RisesFrom low (map (λ (x : ℕ × X). (x.0, view x.1)) placed)
 rises_map view low [] rise = tt
 rises_map view low (x ∷ placed) rise = (rise.0, rises_map view (suc x.0) placed rise.1)

@@ -1,4 +1,4 @@
--- A scan of a list for the first refusal: how it stands at each place.
+-- A scan of a list for the first refusal: how it is at each place.
 use Rattle.std.proofs.Common.{◌≡◌, ℕ, suc, ◌+◌, ◌<◌, ◌≤◌, List, [], ◌∷◌, map, length, drop, get_or, drop-cons, add-one, Option, Some, None, refl, sym, ap, subst, ◌∙◌}
 use Rattle.std.specs.Option.{option_or}
 use Rattle.std.proofs.lemmas.List.{drop_all, get_or-map, length-map}
@@ -21,7 +21,7 @@ finished test place = refl
 pub from_place : {X : Type 0} (xs : List X) (i : ℕ) (x : X) → i < length xs → x ≡ get_or xs i x → drop i xs ≡ x ∷ drop (suc i) xs
 from_place xs i x lt is = drop-cons xs i x lt ∙ ap (λ y. y ∷ drop (suc i) xs) (sym is)
 
--- where the item at a place passes, those behind it decide
+-- where the item at a place passes, those after it decide
 pub scan_more : {X : Type 0} (test : ℕ → X → Option Refusal) (xs : List X) (i : ℕ) (x : X) → i < length xs → x ≡ get_or xs i x → test i x ≡ None
     → first_refusal test (i + 1) (drop (i + 1) xs) ≡ first_refusal test i (drop i xs)
 scan_more test xs i x lt is e =
@@ -32,7 +32,7 @@ pub scan_here : {X : Type 0} (test : ℕ → X → Option Refusal) (xs : List X)
     → first_refusal test i (drop i xs) ≡ Some why
 scan_here test xs i x why lt is e = ap (first_refusal test i) (from_place xs i x lt is) ∙ failed test i x (drop (suc i) xs) why e
 
--- behind the last item there is none
+-- after the last item there is none
 pub scan_end : {X : Type 0} (test : ℕ → X → Option Refusal) (xs : List X) (i : ℕ) → length xs ≤ i → first_refusal test i (drop i xs) ≡ None
 scan_end test xs i le = ap (first_refusal test i) (drop_all i xs le) ∙ finished test i
 

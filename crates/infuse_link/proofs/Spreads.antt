@@ -158,7 +158,7 @@ pub handlers_one : (row : HandlerRow) (pc : ℕ) (b : Bool) → covers pc row �
 handlers_one row pc true e = ap (λ b. map (λ (r : HandlerRow). r.target) (cond b (row ∷ []) [])) (sym e)
 handlers_one row pc false e = ap (λ b. map (λ (r : HandlerRow). r.target) (cond b (row ∷ []) [])) (sym e)
 
-pub successors_are : (way : Way) (behind : Ways) → goes_to way.goes_on behind ++ way.targets ≡ successors way behind
+pub successors_are : (way : Way) (suffix : Ways) → goes_to way.goes_on suffix ++ way.targets ≡ successors way suffix
 successors_are way [] = refl
-successors_are way (x ∷ behind) =
+successors_are way (x ∷ suffix) =
     elim way.goes_on as (λ b. ((if b then x.0 ∷ [] else []) ++ way.targets ≡ (if b then x.0 ∷ way.targets else way.targets))) [ true ↦ refl | false ↦ refl ]

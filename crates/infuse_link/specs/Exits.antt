@@ -5,7 +5,7 @@ use Rattle.jvm_model.specs.Reached.{Way, Ways, with_handlers}
 use Rattle.infuse_link.specs.declared.exits.Exit.{Exit}
 use Rattle.infuse_link.specs.declared.exits.Exit.TheVariants as exit
 
--- it leads behind itself
+-- it leads after itself
 abbrev pub goes_on : Exit → Bool
 goes_on exit.On = true
 goes_on (exit.Branch target) = true

@@ -2,7 +2,7 @@
 use Rattle.std.specs.Prelude.{◌≡◌, ℕ, if◌then◌else◌, List, [], ◌∷◌, ◌++◌, map, Option, Some, None, option_map, option_and_then, Result, Ok, Err}
 use Rattle.class_code.specs.declared.insn.StackForm.TheVariants as form
 use Rattle.class_code.specs.Code.{Insns}
-use Rattle.class_pool.specs.Pool.{Places}
+use Rattle.class_pool.specs.Pool.{Slots}
 use Rattle.jvm_model.specs.State.{Whole}
 use Rattle.jvm_model.specs.Program as program
 use Rattle.jvm_model.specs.Body.{Body, family_of}
@@ -49,15 +49,15 @@ body_meant list = map (λ x. (x.0, meant x.1)) list
 abbrev pub unless_other : Option program.Family → Option program.Family
 unless_other family = option_and_then (λ f. if is_of_form f then Some f else None) family
 
--- a body with these instructions in front
-abbrev pub with_front : Body → Option Body → Option Body
-with_front front body = option_map (λ behind. front ++ behind) body
+-- a body with these instructions in prefix
+abbrev pub with_prefix : Body → Option Body → Option Body
+with_prefix prefix body = option_map (λ suffix. prefix ++ suffix) body
 
 -- the body of instructions, where each is of the form
-unfoldable pub number_body : Places → Insns → Option Body
+unfoldable pub number_body : Slots → Insns → Option Body
 number_body pool [] = Some []
 number_body pool (x ∷ insns) =
-    option_and_then (λ family. with_front ((x.0, family) ∷ []) (number_body pool insns)) (unless_other (family_of pool x.1))
+    option_and_then (λ family. with_prefix ((x.0, family) ∷ []) (number_body pool insns)) (unless_other (family_of pool x.1))
 
 -- what was found is this, or there is none, unless there was no memory
 abbrev pub Finds : {X : Type 0} → (X → Body) → Result X Stop → Option Body → Type 0

@@ -7,7 +7,7 @@ use Rattle.jvm_model.specs.Reached.{Ways, successors, IsReached}
 use Rattle.jvm_model.specs.NumberForm.{is_in}
 use Rattle.infuse_link.specs.declared.reach.Reached.{Reached}
 
--- ---- what stands at pcs
+-- ---- what is at pcs
 
 -- the pcs rise, from this one on
 abbrev pub RisesFrom : {X : Type 0} → ℕ → List (ℕ × X) → Type 0
@@ -19,7 +19,7 @@ unfoldable pub from_pc : {X : Type 0} → ℕ → List (ℕ × X) → List (ℕ 
 from_pc pc [] = []
 from_pc pc (x ∷ placed) = if nat_lt x.0 pc then from_pc pc placed else x ∷ placed
 
--- what stands at the pc comes first
+-- what is at the pc comes first
 abbrev pub starts_at : {X : Type 0} → ℕ → List (ℕ × X) → Bool
 starts_at pc [] = false
 starts_at pc (x ∷ placed) = x.0 == pc
@@ -27,16 +27,16 @@ starts_at pc (x ∷ placed) = x.0 == pc
 -- the first pc, for what goes on to it
 abbrev pub goes_to : {X : Type 0} → Bool → List (ℕ × X) → List ℕ
 goes_to goes_on [] = []
-goes_to goes_on (x ∷ behind) = if goes_on then x.0 ∷ [] else []
+goes_to goes_on (x ∷ suffix) = if goes_on then x.0 ∷ [] else []
 
--- for each pc the list has the index of the first that is not before it; behind the list there is none
+-- for each pc the list has the index of the first that is not before it; after the list there is none
 pub record AreFirsts {X : Type 0} (firsts : List ℕ) (placed : List (ℕ × X)) : Type 0 where
   pub within : (pc : ℕ) → pc < length firsts → drop (get_or firsts pc 0) placed ≡ from_pc pc placed
-  pub behind : (pc : ℕ) → length firsts ≤ pc → from_pc pc placed ≡ []
+  pub suffix : (pc : ℕ) → length firsts ≤ pc → from_pc pc placed ≡ []
 
 -- ---- the set
 
--- where the first way leads, if it stands at the pc
+-- where the first way leads, if it is at the pc
 abbrev pub leads : ℕ → Ways → List ℕ
 leads pc [] = []
 leads pc (x ∷ ways) = if x.0 == pc then successors x.1 ways else []

@@ -1,6 +1,6 @@
 -- The records of the files of a set, and why a set of records has no image.
 use Rattle.std.specs.Prelude.{◌≡◌, ◌⊎◌, ℕ, Bool, not, ◌||◌, List, [], ◌∷◌, Option, option_map}
-use Rattle.class_pool.specs.Pool.{Places}
+use Rattle.class_pool.specs.Pool.{Slots}
 use Rattle.class_code.specs.declared.insn.Insn.{Insn}
 use Rattle.class_code.specs.Code.{Insns, first_other}
 use Rattle.class_file.specs.declared.record.ClassFile.{ClassFile}
@@ -41,11 +41,11 @@ SetStopsFor classes (CodeTooLong bytes) = IsOneClass classes (λ class. HasLongM
 SetStopsFor classes Memory = Unit {0}
 
 -- the instruction is not in the set, or it is of the form
-abbrev pub is_inside : Places → (ℕ → Bool) → ℕ × Insn → Bool
+abbrev pub is_inside : Slots → (ℕ → Bool) → ℕ × Insn → Bool
 is_inside pool reached x = not (reached x.0) || is_plain_insn pool x.1
 
 -- the pc of the first of these instructions that is in the set and outside the form
-abbrev pub first_outside : Places → (ℕ → Bool) → Insns → Option ℕ
+abbrev pub first_outside : Slots → (ℕ → Bool) → Insns → Option ℕ
 first_outside pool reached insns = option_map (λ x. x.0) (first_other (is_inside pool reached) insns)
 
 -- the refusal of classes that have no image for this reason, or of want of memory

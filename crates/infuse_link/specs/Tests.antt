@@ -4,20 +4,20 @@ use Rattle.jvm_model.specs.Program.{Family}
 use Rattle.jvm_model.specs.Body.{Body}
 use Rattle.jvm_model.specs.FrameCells.{number_cells}
 use Rattle.infuse_link.specs.declared.locals.Slots.{Slots}
-use Rattle.jvm_model.specs.NumberForm.{pops, height_behind, is_jump, is_final, reads, writes, is_in, with_one}
+use Rattle.jvm_model.specs.NumberForm.{pops, height_after, is_jump, is_final, reads, writes, is_in, with_one}
 
 -- the family keeps the rules on heights at this one
 abbrev pub fits : ℕ → Bool → ℕ → Family → Bool
 fits max_stack arrives height family =
     (not arrives || (height == 0))
     && (nat_le (pops family) height
-    && (nat_le (height_behind height family) max_stack && ((height_behind height family == 0) || not (is_jump family || is_final family))))
+    && (nat_le (height_after height family) max_stack && ((height_after height family == 0) || not (is_jump family || is_final family))))
 
 -- the greatest height of the operand stack, where each family keeps the rules on heights
 unfoldable pub heights : ℕ → (ℕ → Bool) → ℕ → ℕ → Body → Option ℕ
 heights max_stack arrives height greatest [] = Some greatest
 heights max_stack arrives height greatest (x ∷ body) =
-    if fits max_stack (arrives x.0) height x.1 then heights max_stack arrives (height_behind height x.1) (max greatest (height_behind height x.1)) body else None
+    if fits max_stack (arrives x.0) height x.1 then heights max_stack arrives (height_after height x.1) (max greatest (height_after height x.1)) body else None
 
 -- whether the last of the families is final, where there is one
 unfoldable pub ends_from : Bool → Body → Bool

@@ -82,8 +82,8 @@ fn fits(max_stack: u16, arrives: bool, height: u32, insn: NumberInsn<'_>) -> boo
     if height < insn.pops() {
         return false;
     }
-    let behind = height - insn.pops() + insn.pushes();
-    behind <= u32::from(max_stack) && (behind == 0 || !(insn.is_jump() || insn.is_final()))
+    let suffix = height - insn.pops() + insn.pushes();
+    suffix <= u32::from(max_stack) && (suffix == 0 || !(insn.is_jump() || insn.is_final()))
 }
 
 /// The larger of two numbers.
@@ -110,7 +110,7 @@ pub(crate) fn heights(max_stack: u16, arrivals: &[bool], body: &[Placed<'_>]) ->
     Some(greatest)
 }
 
-/// Whether the last instruction does not go on behind itself.
+/// Whether the last instruction does not go on after itself.
 pub(crate) fn ends(body: &[Placed<'_>]) -> bool
     ensures { result ≡ ends_from false (body_meant body.now) }
 {

@@ -31,7 +31,7 @@ pub(crate) enum Exit<'a> {
 pub(crate) type PlacedExit<'a> = (u32, Exit<'a>);
 
 impl Exit<'_> {
-    /// It leads behind itself.
+    /// It leads after itself.
     pub(crate) fn goes_on(self) -> bool
         ensures { result ≡ goes_on_of self.entry }
     {

@@ -148,7 +148,7 @@ impl NumberInsn<'_> {
         }
     }
 
-    /// It may lead elsewhere than behind itself.
+    /// It may lead elsewhere than after itself.
     pub(crate) fn is_jump(self) -> bool
         ensures { result ≡ is_jump_of (meant self.entry) }
     {
@@ -161,7 +161,7 @@ impl NumberInsn<'_> {
         )
     }
 
-    /// It does not go on behind itself.
+    /// It does not go on after itself.
     pub(crate) fn is_final(self) -> bool
         ensures { result ≡ is_final_of (meant self.entry) }
     {

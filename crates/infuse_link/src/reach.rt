@@ -54,7 +54,7 @@ fn index_of(exits: &[PlacedExit<'_>], firsts: &[usize], pc: u32) -> usize
     index_in(firsts, exits.len(), pc)
 }
 
-/// Whether an instruction stands at a pc.
+/// Whether an instruction is at a pc.
 fn is_start(exits: &[PlacedExit<'_>], firsts: &[usize], pc: u32) -> bool
     requires { AreFirsts firsts.now exits.now }
     ensures { result ≡ starts_at pc (from_pc pc exits.now) }
@@ -132,8 +132,8 @@ fn reach_targets(
     }
 }
 
-/// Notes that the instruction at an index is reached from the one in front of it.
-fn reach_behind(
+/// Notes that the instruction at an index is reached from the one before it.
+fn reach_after(
     exits: &[PlacedExit<'_>],
     firsts: &[usize],
     exit: Exit<'_>,
@@ -212,7 +212,7 @@ fn visit(
     if index < exits.len() {
         let (at, exit) = exits[index];
         if at == pc {
-            reach_behind(exits, firsts, exit, index + 1, state)?;
+            reach_after(exits, firsts, exit, index + 1, state)?;
             reach_targets(exits, firsts, exit, state)?;
             return reach_handlers(exits, firsts, handlers, pc, state);
         }

@@ -6,13 +6,13 @@ use Rattle.std.proofs.lemmas.Option.{none-some, same_Some}
 use Rattle.class_file.specs.declared.record.ClassFile.{ClassFile}
 use Rattle.class_file.specs.declared.record.CodeAttr.{CodeAttr}
 use Rattle.class_file.specs.declared.record.Member.{Member}
-use Rattle.class_pool.specs.Pool.{Places, integer_at}
+use Rattle.class_pool.specs.Pool.{Slots, integer_at}
 use Rattle.class_pool.specs.Members.{method_name_at}
 use Rattle.class_code.specs.declared.refusal.CodeRefusal.{CodeRefusal}
 use Rattle.class_code.specs.declared.insn.ValueKind.TheVariants as value
 use Rattle.class_code.specs.declared.insn.Insn.{Insn}
 use Rattle.class_code.specs.declared.insn.Insn.TheVariants as insns
-use Rattle.class_code.specs.Code.{Insns, StandIn, IsStart, is_start, JumpsToStarts, targets as jump_targets, decoded}
+use Rattle.class_code.specs.Code.{Insns, AreIn, IsStart, is_start, JumpsToStarts, targets as jump_targets, decoded}
 use Rattle.class_code.proofs.Shorter.{insn_at-shorter}
 use Rattle.class_code.proofs.Starts.{is_start-tells}
 use Rattle.class_code.proofs.Laws.{code-found}
@@ -29,7 +29,7 @@ abbrev pub RiseWithin : ℕ → ℕ → Body → Type 0
 RiseWithin low end [] = Unit {0}
 RiseWithin low end (x ∷ body) = (low ≤ x.0) × (x.0 < end) × RiseWithin (suc x.0) end body
 
--- a family stands at the pc
+-- a family is at the pc
 abbrev pub has_pc : Body → ℕ → Bool
 has_pc body pc = list_any (λ x. eqb x.0 pc) body
 
@@ -45,7 +45,7 @@ pub record IsCodeBody (end : ℕ) (body : Body) : Type 0 where
 -- ---- the body of instructions
 
 -- the body is these instructions, one by one
-abbrev AreFamilies : Places → Insns → Body → Type 0
+abbrev AreFamilies : Slots → Insns → Body → Type 0
 AreFamilies pool [] [] = Unit {0}
 AreFamilies pool ((at, insn) ∷ insns) ((pc, family) ∷ body) = (at ≡ pc) × (family_of pool insn ≡ Some family) × AreFamilies pool insns body
 AreFamilies pool _ _ = ⊥
@@ -54,21 +54,21 @@ abbrev some_body : Body → Option Body
 some_body body = Some body
 
 -- one more family, where there is one
-families-more : (pool : Places) (pc : ℕ) (insn : Insn) (insns : Insns) (found : Option Family) (rest : Option Body) (body : Body)
-    → family_of pool insn ≡ found → ((behind : Body) → rest ≡ Some behind → AreFamilies pool insns behind)
-    → option_and_then (λ family. option_map (λ behind. (pc, family) ∷ behind) rest) found ≡ Some body → AreFamilies pool ((pc, insn) ∷ insns) body
+families-more : (pool : Slots) (pc : ℕ) (insn : Insn) (insns : Insns) (found : Option Family) (rest : Option Body) (body : Body)
+    → family_of pool insn ≡ found → ((suffix : Body) → rest ≡ Some suffix → AreFamilies pool insns suffix)
+    → option_and_then (λ family. option_map (λ suffix. (pc, family) ∷ suffix) rest) found ≡ Some body → AreFamilies pool ((pc, insn) ∷ insns) body
 families-more pool pc insn insns None rest body is more e = absurd (none-some body e)
 families-more pool pc insn insns (Some family) None body is more e = absurd (none-some body e)
-families-more pool pc insn insns (Some family) (Some behind) body is more e =
-    subst (AreFamilies pool ((pc, insn) ∷ insns)) (same_Some ((pc, family) ∷ behind) body e) (refl, is, more behind refl)
+families-more pool pc insn insns (Some family) (Some suffix) body is more e =
+    subst (AreFamilies pool ((pc, insn) ∷ insns)) (same_Some ((pc, family) ∷ suffix) body e) (refl, is, more suffix refl)
 
-families : (pool : Places) (insns : Insns) (body : Body) → families_of pool insns ≡ Some body → AreFamilies pool insns body
+families : (pool : Slots) (insns : Insns) (body : Body) → families_of pool insns ≡ Some body → AreFamilies pool insns body
 families pool [] body e = subst (AreFamilies pool []) (same_Some [] body e) tt
 families pool ((pc, insn) ∷ insns) body e = families-more pool pc insn insns (family_of pool insn) (families_of pool insns) body refl (families pool insns) e
 
 -- ---- pcs
 
-body-rises : (pool : Places) (pc : ℕ) (bytes : List ℕ) (insns : Insns) (next : ℕ) (left : List ℕ) (body : Body) (low end : ℕ) → StandIn pc bytes insns next left → AreFamilies pool insns body → low ≤ pc → pc + length bytes ≤ end → RiseWithin low end body
+body-rises : (pool : Slots) (pc : ℕ) (bytes : List ℕ) (insns : Insns) (next : ℕ) (left : List ℕ) (body : Body) (low end : ℕ) → AreIn pc bytes insns next left → AreFamilies pool insns body → low ≤ pc → pc + length bytes ≤ end → RiseWithin low end body
 body-rises pool pc bytes [] next left [] low end stand are from within = tt
 body-rises pool pc bytes ((at, insn) ∷ insns) next left ((here, family) ∷ body) low end stand are from within =
     let shorter = insn_at-shorter pc bytes insn stand.1 stand.2 in
@@ -78,7 +78,7 @@ body-rises pool pc bytes ((at, insn) ∷ insns) next left ((here, family) ∷ bo
 body-rises pool pc bytes [] next left (x ∷ body) low end stand are from within = absurd are
 body-rises pool pc bytes (x ∷ insns) next left [] low end stand are from within = absurd are
 
-body-starts : (pool : Places) (pc : ℕ) (bytes : List ℕ) (insns : Insns) (next : ℕ) (left : List ℕ) (body : Body) → StandIn pc bytes insns next left → AreFamilies pool insns body → pc ≡ 0 → first_pc body 0 ≡ 0
+body-starts : (pool : Slots) (pc : ℕ) (bytes : List ℕ) (insns : Insns) (next : ℕ) (left : List ℕ) (body : Body) → AreIn pc bytes insns next left → AreFamilies pool insns body → pc ≡ 0 → first_pc body 0 ≡ 0
 body-starts pool pc bytes [] next left [] stand are zeroth = refl
 body-starts pool pc bytes ((at, insn) ∷ insns) next left ((here, family) ∷ body) stand are zeroth = sym are.0 ∙ stand.0 ∙ zeroth
 body-starts pool pc bytes [] next left (x ∷ body) stand are zeroth = absurd are
@@ -97,7 +97,7 @@ call-targets : (o : Option Native) (family : Family) → option_map (λ native. 
 call-targets None family e = absurd (none-some family e)
 call-targets (Some native) family e = same_targets (CallStatic (OfLibrary native)) family e
 
-family-targets : (pool : Places) (insn : Insn) (family : Family) → family_of pool insn ≡ Some family → jump_targets insn ≡ targets family
+family-targets : (pool : Slots) (insn : Insn) (family : Family) → family_of pool insn ≡ Some family → jump_targets insn ≡ targets family
 family-targets pool insns.Nop family e = same_targets Nop family e
 family-targets pool (insns.Push number) family e = same_targets (Const (Whole number)) family e
 family-targets pool (insns.Ldc index) family e = ldc-targets (integer_at pool index) family e
@@ -120,14 +120,14 @@ starts-pass : (insns : Insns) (places : List ℕ) → AllByRecursion (IsStart in
 starts-pass insns [] all = tt
 starts-pass insns (to ∷ places) all = ((is_start-tells insns to).passes all.0, starts-pass insns places all.1)
 
-body-jumps : (pool : Places) (all insns : Insns) (body : Body) → AreFamilies pool insns body → AllByRecursion (JumpsToStarts all) insns → JumpTo (is_start all) body
+body-jumps : (pool : Slots) (all insns : Insns) (body : Body) → AreFamilies pool insns body → AllByRecursion (JumpsToStarts all) insns → JumpTo (is_start all) body
 body-jumps pool all [] [] are jumps = tt
 body-jumps pool all ((at, insn) ∷ insns) ((pc, family) ∷ body) are jumps =
     (subst (AllByRecursion (λ to. is_start all to ≡ true)) (family-targets pool insn family are.1) (starts-pass all (jump_targets insn) jumps.0), body-jumps pool all insns body are.2 jumps.1)
 body-jumps pool all [] (x ∷ body) are jumps = absurd are
 body-jumps pool all (x ∷ insns) [] are jumps = absurd are
 
-starts-same : (pool : Places) (insns : Insns) (body : Body) (pc : ℕ) → AreFamilies pool insns body → is_start insns pc ≡ true → has_pc body pc ≡ true
+starts-same : (pool : Slots) (insns : Insns) (body : Body) (pc : ℕ) → AreFamilies pool insns body → is_start insns pc ≡ true → has_pc body pc ≡ true
 starts-same pool insns body pc are e = sym (same insns body are) ∙ e
   where
     same : (insns : Insns) (body : Body) → AreFamilies pool insns body → is_start insns pc ≡ has_pc body pc
@@ -147,7 +147,7 @@ jumps-more test other more (x ∷ body) all = (passes-more test other more (targ
 
 -- ---- the body of code
 
-insns-are : (code : List ℕ) (read : Result Insns CodeRefusal) (pool : Places) (body : Body) → decoded code ≡ read → option_and_then (families_of pool) (insns_in read) ≡ Some body → IsCodeBody (length code) body
+insns-are : (code : List ℕ) (read : Result Insns CodeRefusal) (pool : Slots) (body : Body) → decoded code ≡ read → option_and_then (families_of pool) (insns_in read) ≡ Some body → IsCodeBody (length code) body
 insns-are code (Ok insns) pool body e total =
     let is = code-found code insns e in
     let are = families pool insns body total in
@@ -159,7 +159,7 @@ insns-are code (Ok insns) pool body e total =
 insns-are code (Err why) pool body e total = absurd (none-some body total)
 
 -- what code has as its body is one
-pub code-body : (pool : Places) (code : CodeAttr) (body : Body) → body_of pool code ≡ Some body → IsCodeBody (length code.code) body
+pub code-body : (pool : Slots) (code : CodeAttr) (body : Body) → body_of pool code ≡ Some body → IsCodeBody (length code.code) body
 code-body pool code body is = insns-are code.code (decoded code.code) pool body refl is
 
 -- ---- the program of a file of the form

@@ -35,7 +35,7 @@ module _ (program : Program) (budget : ℕ) (code : CodeAttr) (body : Body) (sta
       (subst (λ (found : Option Placed). IsWell code body budget pc state.ticks (step_placed program budget state (frame_at pc good.locals good.numbers) [] found)) (sym placed)
       (family-well program budget code body start state pc good.rest good.locals good.family good.numbers here))
 
-  -- a run that ends from behind a step ends from before it
+  -- a run that ends from after a step ends from before it
   step-more : (said : List Item) (state : State) (next : Progress State Ending) → after_step said state (step program budget state) ≡ next → SomeEnd program budget next → SomeEnd program budget (Running said state)
   step-more said state next is (outcome, ends) = (
     outcome,

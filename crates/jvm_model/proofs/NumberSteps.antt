@@ -15,7 +15,7 @@ use Rattle.cell_num.specs.Arithmetic.{applied}
 use Rattle.cell_num.specs.Conditions.{is_met}
 use Rattle.cell_num.specs.Conversions.{converted}
 use Rattle.dialogue.specs.Dialogue.{Get, putting}
-use Rattle.dialogue.specs.Natives.{low_byte, next_byte, behind_byte}
+use Rattle.dialogue.specs.Natives.{low_byte, next_byte, after_byte}
 use Rattle.dialogue.specs.Run.{Step, Goes, Ends, Stuck}
 use Rattle.class_code.specs.declared.insn.StackForm.TheVariants as form
 use Rattle.class_code.specs.declared.insn.SwitchForm.{SwitchForm}
@@ -25,10 +25,10 @@ use Rattle.jvm_model.specs.State.{Value, Whole, Null, Name, Frame, State}
 use Rattle.jvm_model.specs.Program.{WriteByte, PrintNumber, ReadByte, OfLibrary, Family, Nop, Const, Load, Store, Inc, Stack, Bin, Negate, Convert, If, IfCmp, Goto, Switch, CallStatic, Return, Program}
 use Rattle.jvm_model.specs.Body.{Body, first_pc}
 use Rattle.jvm_model.specs.ProgramOf.{first_class}
-use Rattle.jvm_model.specs.NumberForm.{pops, height_behind, is_jump, is_final, writes, is_in, all_targets, with_one}
+use Rattle.jvm_model.specs.NumberForm.{pops, height_after, is_jump, is_final, writes, is_in, all_targets, with_one}
 use Rattle.jvm_model.specs.Machine.{Ending, Spent, goes_on, jumps, row_target, step_load, step_inc, step_result, step_show, step_family}
 use Rattle.jvm_model.proofs.CodeBody.{has_pc}
-use Rattle.jvm_model.proofs.Reading.{IsRead, read-to, read-behind, counted, counted-stopped, counted-keeps, straight_behind, written_behind}
+use Rattle.jvm_model.proofs.Reading.{IsRead, read-to, read-after, counted, counted-stopped, counted-keeps, straight_after, written_after}
 
 -- ---- good states
 
@@ -65,14 +65,14 @@ abbrev pub moved : State → ℕ → List (Option Value) → List ℤ → ℕ �
 moved state pc locals numbers ticks =
     record { frames = frame_at pc locals numbers ∷ []; objects = state.objects; statics = state.statics; input = state.input; ticks = ticks }
 
--- the state behind a read
+-- the state after a read
 abbrev after_read : State → Frame → ℕ → State
 after_read state frame next =
     record {
       frames = record frame { pc = next; operands = Whole (next_byte state.input) ∷ frame.operands } ∷ [];
       objects = state.objects;
       statics = state.statics;
-      input = behind_byte state.input;
+      input = after_byte state.input;
       ticks = state.ticks + 1;
     }
 
@@ -123,10 +123,10 @@ set-keeps (x ∷ locals) zero (suc other) number is = is
 set-keeps (x ∷ locals) (suc local) zero number is = is
 set-keeps (x ∷ locals) (suc local) (suc other) number is = set-keeps locals local other number is
 
-set-behind : (locals : List (Option Value)) (local : ℕ) (number : ℤ) (written : List ℕ) → local < length locals → ((other : ℕ) → is_in written other ≡ true → IsNumber locals other)
+set-after : (locals : List (Option Value)) (local : ℕ) (number : ℤ) (written : List ℕ) → local < length locals → ((other : ℕ) → is_in written other ≡ true → IsNumber locals other)
     → (counts : Bool) (other : ℕ) → is_in (with_one counts (Some local) written) other ≡ true → IsNumber (slice_set locals local (Some (Whole number))) other
-set-behind locals local number written within set false other e = set-keeps locals local other number (set other e)
-set-behind locals local number written within set true other e = elim (or_cases (eqb local other) (is_in written other) e) [
+set-after locals local number written within set false other e = set-keeps locals local other number (set other e)
+set-after locals local number written within set true other e = elim (or_cases (eqb local other) (is_in written other) e) [
   | inl same ↦ subst (IsNumber (slice_set locals local (Some (Whole number)))) (eqb-true local other same) (set-here locals local number within)
   | inr old ↦ set-keeps locals local other number (set other old)
 ]
@@ -149,10 +149,10 @@ module _ (program : Program) (budget : ℕ) (code : CodeAttr) (body : Body) (sta
   abbrev next : ℕ
   next = first_pc rest (length code.code)
 
-  -- the state behind an instruction that goes on behind itself
-  falls : (behind : Body) (family : Family) (numbers : List ℤ) (here : IsAt code body pc family behind locals numbers) → is_final family ≡ false
-      → (after : State) (others : List (Option Value)) (left : List ℤ) → after.frames ≡ frame_at (first_pc behind end) others left ∷ [] → length left ≡ height_behind (length numbers) family → length others ≡ length locals
-      → ((local : ℕ) → is_in (written_behind (all_targets body) here.straight here.written pc family) local ≡ true → IsNumber others local)
+  -- the state after an instruction that goes on after itself
+  falls : (suffix : Body) (family : Family) (numbers : List ℤ) (here : IsAt code body pc family suffix locals numbers) → is_final family ≡ false
+      → (after : State) (others : List (Option Value)) (left : List ℤ) → after.frames ≡ frame_at (first_pc suffix end) others left ∷ [] → length left ≡ height_after (length numbers) family → length others ≡ length locals
+      → ((local : ℕ) → is_in (written_after (all_targets body) here.straight here.written pc family) local ≡ true → IsNumber others local)
       → ((to : ℕ) → pc < to → to < end → left_at budget end after.ticks to < left_at budget end state.ticks pc)
       → GoesOn code body budget pc state.ticks after
   falls [] family numbers here goes after others left frames heights size set less = absurd (false≢true (sym goes ∙ here.read.ends))
@@ -167,11 +167,11 @@ module _ (program : Program) (budget : ℕ) (code : CodeAttr) (body : Body) (sta
               numbers = left;
               here =
                   record {
-                    height = height_behind here.height family;
-                    straight = straight_behind (all_targets body) here.straight pc family;
-                    written = written_behind (all_targets body) here.straight here.written pc family;
-                    read = read-behind code body pc family (to, other) more here.height here.straight here.written here.read;
-                    heights = heights ∙ ap (λ height. height_behind height family) here.heights;
+                    height = height_after here.height family;
+                    straight = straight_after (all_targets body) here.straight pc family;
+                    written = written_after (all_targets body) here.straight here.written pc family;
+                    read = read-after code body pc family (to, other) more here.height here.straight here.written here.read;
+                    heights = heights ∙ ap (λ height. height_after height family) here.heights;
                     size = size ∙ here.size;
                     set = set;
                   };
@@ -181,27 +181,27 @@ module _ (program : Program) (budget : ℕ) (code : CodeAttr) (body : Body) (sta
       }
 
   -- where no local is set and no tick is used
-  simple : (family : Family) (numbers left : List ℤ) → IsAt code body pc family rest locals numbers → is_final family ≡ false → writes family ≡ None → length left ≡ height_behind (length numbers) family
+  simple : (family : Family) (numbers left : List ℤ) → IsAt code body pc family rest locals numbers → is_final family ≡ false → writes family ≡ None → length left ≡ height_after (length numbers) family
       → Well (goes_on state (frame_at pc locals numbers) [] next (map Whole left))
   simple family numbers left here goes writes_none heights =
       falls rest family numbers here goes (record state { frames = frame_at next locals left ∷ [] }) locals left refl heights refl (λ local e. here.set local (subst (λ (written : List ℕ). is_in written local ≡ true) (none-more here writes_none) e)) (left-forward budget end state.ticks pc)
     where
-      none-more : (here : IsAt code body pc family rest locals numbers) → writes family ≡ None → written_behind (all_targets body) here.straight here.written pc family ≡ here.written
+      none-more : (here : IsAt code body pc family rest locals numbers) → writes family ≡ None → written_after (all_targets body) here.straight here.written pc family ≡ here.written
       none-more here e = ap (λ one. with_one (here.straight && not (is_in (all_targets body) pc)) one here.written) e
 
   -- ---- jumps
 
   -- the state at a target
   arrives : (family : Family) (numbers : List ℤ) (here : IsAt code body pc family rest locals numbers) → is_jump family ≡ true → writes family ≡ None
-      → (to : ℕ) → has_pc body to ≡ true → is_in (all_targets body) to ≡ true → (left : List ℤ) → length left ≡ height_behind (length numbers) family
+      → (to : ℕ) → has_pc body to ≡ true → is_in (all_targets body) to ≡ true → (left : List ℤ) → length left ≡ height_after (length numbers) family
       → (after : State) → after.frames ≡ frame_at to locals left ∷ [] → IsGood code body to after
   arrives family numbers here jump writes_none to has arrival left heights after frames =
       let target = read-to code body body 0 true [] start to has in
-      let none : height_behind here.height family ≡ 0 = here.read.balanced.3 (or_left (is_jump family) (is_final family) jump) in
-      let stopped : straight_behind (all_targets body) here.straight pc family ≡ false = and_right (here.straight && not (is_in (all_targets body) pc)) (not (is_jump family)) (not_from_true (is_jump family) jump) in
+      let none : height_after here.height family ≡ 0 = here.read.balanced.3 (or_left (is_jump family) (is_final family) jump) in
+      let stopped : straight_after (all_targets body) here.straight pc family ≡ false = and_right (here.straight && not (is_in (all_targets body) pc)) (not (is_jump family)) (not_from_true (is_jump family) jump) in
       let same : counted (all_targets body) target.straight target.written ((to, target.family) ∷ target.rest) ≡ here.written =
       target.read.counted_is ∙ sym here.read.counted_is
-      ∙ counted-stopped (all_targets body) (straight_behind (all_targets body) here.straight pc family) (written_behind (all_targets body) here.straight here.written pc family) rest stopped
+      ∙ counted-stopped (all_targets body) (straight_after (all_targets body) here.straight pc family) (written_after (all_targets body) here.straight here.written pc family) rest stopped
       ∙ ap (λ one. with_one (here.straight && not (is_in (all_targets body) pc)) one here.written) writes_none in
       record {
         family = target.family;
@@ -214,7 +214,7 @@ module _ (program : Program) (budget : ℕ) (code : CodeAttr) (body : Body) (sta
               straight = target.straight;
               written = target.written;
               read = target.read;
-              heights = heights ∙ ap (λ height. height_behind height family) here.heights ∙ none ∙ sym (target.read.balanced.0 arrival);
+              heights = heights ∙ ap (λ height. height_after height family) here.heights ∙ none ∙ sym (target.read.balanced.0 arrival);
               size = here.size;
               set = λ local e. here.set local (subst (λ (written : List ℕ). is_in written local ≡ true) same (counted-keeps (all_targets body) target.straight target.written ((to, target.family) ∷ target.rest) local e));
             };
@@ -222,7 +222,7 @@ module _ (program : Program) (budget : ℕ) (code : CodeAttr) (body : Body) (sta
       }
 
   jump-well : (family : Family) (numbers : List ℤ) → IsAt code body pc family rest locals numbers → is_jump family ≡ true → writes family ≡ None
-      → (to : ℕ) → has_pc body to ≡ true → is_in (all_targets body) to ≡ true → (left : List ℤ) → length left ≡ height_behind (length numbers) family
+      → (to : ℕ) → has_pc body to ≡ true → is_in (all_targets body) to ≡ true → (left : List ℤ) → length left ≡ height_after (length numbers) family
       → Well (jumps budget state (frame_at pc locals numbers) [] to (map Whole left))
   jump-well family numbers here jump writes_none to has arrival left heights =
       cond_both (ltb pc to) (Goes [] (moved state to locals left state.ticks)) (cond (leb (state.ticks + 1) budget) (Goes [] (moved state to locals left (state.ticks + 1))) (Ends Spent)) Well
@@ -256,7 +256,7 @@ module _ (program : Program) (budget : ℕ) (code : CodeAttr) (body : Body) (sta
       let below = here.read.written_below.0 in
       let within : local < length locals = omega (arith, size, below) in
       falls rest (Store local) (number ∷ left) here refl (moved state next (slice_set locals local (Some (Whole number))) left state.ticks) (slice_set locals local (Some (Whole number))) left refl (omega arith) (length-set locals local (Some (Whole number)))
-      (set-behind locals local number here.written within here.set (here.straight && not (is_in (all_targets body) pc)))
+      (set-after locals local number here.written within here.set (here.straight && not (is_in (all_targets body) pc)))
       (left-forward budget end state.ticks pc)
 
   inc-well : (local : ℕ) (amount : ℤ) (numbers : List ℤ) → IsAt code body pc (Inc local amount) rest locals numbers → Well (step_family program budget state (frame_at pc locals numbers) [] next (Inc local amount))
@@ -319,14 +319,14 @@ module _ (program : Program) (budget : ℕ) (code : CodeAttr) (body : Body) (sta
 
   -- a native call that the budget allows
   called : (family : Family) (numbers : List ℤ) (here : IsAt code body pc family rest locals numbers) → is_final family ≡ false → writes family ≡ None
-      → (after : State) (left : List ℤ) → after.frames ≡ frame_at next locals left ∷ [] → after.ticks ≡ state.ticks + 1 → length left ≡ height_behind (length numbers) family → state.ticks + 1 ≤ budget
+      → (after : State) (left : List ℤ) → after.frames ≡ frame_at next locals left ∷ [] → after.ticks ≡ state.ticks + 1 → length left ≡ height_after (length numbers) family → state.ticks + 1 ≤ budget
       → GoesOn code body budget pc state.ticks after
   called family numbers here goes writes_none after left frames ticks heights room =
       falls rest family numbers here goes after locals left frames heights refl
       (λ local e. here.set local (subst (λ one. is_in (with_one (here.straight && not (is_in (all_targets body) pc)) one here.written) local ≡ true) writes_none e))
       (λ to less within. subst (λ used. left_at budget end used to < left_at budget end state.ticks pc) (sym ticks) (left-ticked budget end state.ticks pc to room))
 
-  show-well : (family : Family) (number : ℤ) (left : List ℤ) → IsAt code body pc family rest locals (number ∷ left) → is_final family ≡ false → writes family ≡ None → length left ≡ height_behind (length (number ∷ left)) family → (bytes : ℤ → List ℕ)
+  show-well : (family : Family) (number : ℤ) (left : List ℤ) → IsAt code body pc family rest locals (number ∷ left) → is_final family ≡ false → writes family ≡ None → length left ≡ height_after (length (number ∷ left)) family → (bytes : ℤ → List ℕ)
       → Well (step_show budget state (frame_at pc locals (number ∷ left)) [] next bytes (map Whole (number ∷ left)))
   show-well family number left here goes writes_none heights bytes =
       cond_both (leb (state.ticks + 1) budget) (Goes (putting (bytes number)) (moved state next locals left (state.ticks + 1))) (Ends Spent) Well

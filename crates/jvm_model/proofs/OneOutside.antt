@@ -2,7 +2,7 @@
 use Rattle.std.proofs.Common.{◌≡◌, inl, inr, ℕ, suc, List, [], ◌∷◌, Option, Some, None, refl, sym, ap, ◌∙◌}
 use Rattle.std.proofs.lemmas.Bool.{false≢true}
 use Rattle.std.proofs.lemmas.Option.{none-some, same_Some}
-use Rattle.class_pool.specs.Pool.{Places}
+use Rattle.class_pool.specs.Pool.{Slots}
 use Rattle.class_file.specs.declared.record.ClassFile.{ClassFile}
 use Rattle.class_file.specs.declared.record.CodeAttr.{CodeAttr}
 use Rattle.class_file.specs.declared.record.HandlerRow.{HandlerRow}
@@ -20,7 +20,7 @@ use Rattle.jvm_model.specs.Accepted.{FirstOf, IfThere, NamesFirst, OutsideInsn, 
 abbrev pub IsOne : (Option Refusal → Type 0) → Type 0
 IsOne Has = (a b : Option Refusal) → Has a → Has b → a ≡ b
 
-one_insn : (file member : ℕ) (pool : Places) (ways : Ways) (place : ℕ) (x : ℕ × Insn) → IsOne (OutsideInsn file member pool ways place x)
+one_insn : (file member : ℕ) (pool : Slots) (ways : Ways) (place : ℕ) (x : ℕ × Insn) → IsOne (OutsideInsn file member pool ways place x)
 one_insn file member pool ways place x None None p q = refl
 one_insn file member pool ways place x None (Some b) p q = absurd (false≢true (sym q.1 ∙ p q.0))
 one_insn file member pool ways place x (Some a) None p q = absurd (false≢true (sym p.1 ∙ q p.0))
@@ -51,13 +51,13 @@ one_there : {X : Type 0} (Has : X → Option Refusal → Type 0) → ((x : X) �
 one_there Has one None a b p q = p ∙ sym q
 one_there Has one (Some x) a b p q = one x a b p q
 
-one_insns : (file member : ℕ) (pool : Places) (rows : List HandlerRow) (insns : Insns) → IsOne (OutsideInsns file member pool rows insns)
+one_insns : (file member : ℕ) (pool : Slots) (rows : List HandlerRow) (insns : Insns) → IsOne (OutsideInsns file member pool rows insns)
 one_insns file member pool rows insns = one_first (OutsideInsn file member pool (code_ways rows insns)) (one_insn file member pool (code_ways rows insns)) 0 insns
 
-one_code : (file member : ℕ) (pool : Places) (code : CodeAttr) → IsOne (OutsideCode file member pool code)
+one_code : (file member : ℕ) (pool : Slots) (code : CodeAttr) → IsOne (OutsideCode file member pool code)
 one_code file member pool code = one_there (OutsideInsns file member pool code.handlers) (one_insns file member pool code.handlers) (insns_in (decoded code.code))
 
-one_method : (file : ℕ) (pool : Places) (member : ℕ) (m : Member) → IsOne (OutsideMethod file pool member m)
+one_method : (file : ℕ) (pool : Slots) (member : ℕ) (m : Member) → IsOne (OutsideMethod file pool member m)
 one_method file pool member m = one_there (OutsideCode file member pool) (one_code file member pool) m.code
 
 one_class : (file : ℕ) (class : ClassFile) → IsOne (OutsideClass file class)

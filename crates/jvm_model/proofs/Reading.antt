@@ -6,26 +6,26 @@ use Rattle.std.proofs.lemmas.List.Folds.{list_any-append}
 use Rattle.class_file.specs.declared.record.CodeAttr.{CodeAttr}
 use Rattle.jvm_model.specs.Program.{Family}
 use Rattle.jvm_model.specs.Body.{Body, first_pc, placed_in}
-use Rattle.jvm_model.specs.NumberForm.{is_of_form, height_behind, targets, is_jump, reads, writes, is_in, all_targets, EndsThere, IsBalanced, with_one, AreWritten, IsBelow, HasNumberForm}
+use Rattle.jvm_model.specs.NumberForm.{is_of_form, height_after, targets, is_jump, reads, writes, is_in, all_targets, EndsThere, IsBalanced, with_one, AreWritten, IsBelow, HasNumberForm}
 use Rattle.jvm_model.proofs.CodeBody.{RiseWithin, has_pc, JumpTo, IsCodeBody, jumps-more}
 
 -- ---- the locals that count as written
 
--- whether a local written by the instruction at a pc counts, and whether one behind it may
+-- whether a local written by the instruction at a pc counts, and whether one after it may
 abbrev pub counts_at : List ℕ → Bool → ℕ → Bool
 counts_at arrivals straight pc = straight && not (is_in arrivals pc)
 
-abbrev pub straight_behind : List ℕ → Bool → ℕ → Family → Bool
-straight_behind arrivals straight pc family = (straight && not (is_in arrivals pc)) && not (is_jump family)
+abbrev pub straight_after : List ℕ → Bool → ℕ → Family → Bool
+straight_after arrivals straight pc family = (straight && not (is_in arrivals pc)) && not (is_jump family)
 
--- the locals that count as written behind an instruction
-abbrev pub written_behind : List ℕ → Bool → List ℕ → ℕ → Family → List ℕ
-written_behind arrivals straight written pc family = with_one (straight && not (is_in arrivals pc)) (writes family) written
+-- the locals that count as written after an instruction
+abbrev pub written_after : List ℕ → Bool → List ℕ → ℕ → Family → List ℕ
+written_after arrivals straight written pc family = with_one (straight && not (is_in arrivals pc)) (writes family) written
 
 -- the locals that count as written at the end
 abbrev pub counted : List ℕ → Bool → List ℕ → Body → List ℕ
 counted arrivals straight written [] = written
-counted arrivals straight written (x ∷ body) = counted arrivals (straight_behind arrivals straight x.0 x.1) (written_behind arrivals straight written x.0 x.1) body
+counted arrivals straight written (x ∷ body) = counted arrivals (straight_after arrivals straight x.0 x.1) (written_after arrivals straight written x.0 x.1) body
 
 not-with : (local : Option ℕ) (written : List ℕ) → with_one false local written ≡ written
 not-with None written = refl
@@ -48,15 +48,15 @@ with-keeps true (Some other) written local e = or_right (eqb other local) (is_in
 pub counted-keeps : (arrivals : List ℕ) (straight : Bool) (written : List ℕ) (body : Body) (local : ℕ) → is_in written local ≡ true → is_in (counted arrivals straight written body) local ≡ true
 counted-keeps arrivals straight written [] local e = e
 counted-keeps arrivals straight written (x ∷ body) local e =
-    counted-keeps arrivals (straight_behind arrivals straight x.0 x.1) (written_behind arrivals straight written x.0 x.1) body local (with-keeps (counts_at arrivals straight x.0) (writes x.1) written local e)
+    counted-keeps arrivals (straight_after arrivals straight x.0 x.1) (written_after arrivals straight written x.0 x.1) body local (with-keeps (counts_at arrivals straight x.0) (writes x.1) written local e)
 
 -- ---- the places where jumps arrive
 
-in-front : (front behind : List ℕ) (number : ℕ) → is_in front number ≡ true → is_in (front ++ behind) number ≡ true
-in-front front behind number e = list_any-append (λ other. eqb other number) front behind ∙ or_left (is_in front number) (is_in behind number) e
+in-prefix : (prefix suffix : List ℕ) (number : ℕ) → is_in prefix number ≡ true → is_in (prefix ++ suffix) number ≡ true
+in-prefix prefix suffix number e = list_any-append (λ other. eqb other number) prefix suffix ∙ or_left (is_in prefix number) (is_in suffix number) e
 
-in-behind : (front behind : List ℕ) (number : ℕ) → is_in behind number ≡ true → is_in (front ++ behind) number ≡ true
-in-behind front behind number e = list_any-append (λ other. eqb other number) front behind ∙ or_right (is_in front number) (is_in behind number) e
+in-after : (prefix suffix : List ℕ) (number : ℕ) → is_in suffix number ≡ true → is_in (prefix ++ suffix) number ≡ true
+in-after prefix suffix number e = list_any-append (λ other. eqb other number) prefix suffix ∙ or_right (is_in prefix number) (is_in suffix number) e
 
 in-itself : (numbers : List ℕ) → AllByRecursion (λ number. is_in numbers number ≡ true) numbers
 in-itself [] = tt
@@ -70,11 +70,11 @@ in-itself (number ∷ numbers) = (or_left (eqb number number) (is_in numbers num
 pub jumps-arrive : (body : Body) → JumpTo (is_in (all_targets body)) body
 jumps-arrive [] = tt
 jumps-arrive (x ∷ body) =
-    (front (targets x.1) (in-itself (targets x.1)), jumps-more (is_in (all_targets body)) (is_in (all_targets (x ∷ body))) (in-behind (targets x.1) (all_targets body)) body (jumps-arrive body))
+    (prefix (targets x.1) (in-itself (targets x.1)), jumps-more (is_in (all_targets body)) (is_in (all_targets (x ∷ body))) (in-after (targets x.1) (all_targets body)) body (jumps-arrive body))
   where
-    front : (places : List ℕ) → AllByRecursion (λ to. is_in (targets x.1) to ≡ true) places → AllByRecursion (λ to. is_in (targets x.1 ++ all_targets body) to ≡ true) places
-    front [] all = tt
-    front (to ∷ places) all = (in-front (targets x.1) (all_targets body) to all.0, front places all.1)
+    prefix : (places : List ℕ) → AllByRecursion (λ to. is_in (targets x.1) to ≡ true) places → AllByRecursion (λ to. is_in (targets x.1 ++ all_targets body) to ≡ true) places
+    prefix [] all = tt
+    prefix (to ∷ places) all = (in-prefix (targets x.1) (all_targets body) to all.0, prefix places all.1)
 
 -- ---- the reading
 
@@ -110,10 +110,10 @@ read-from_start code body form is =
       arrive = jumps-arrive body;
     }
 
--- the reading goes on behind an instruction
-pub read-behind : (code : CodeAttr) (body : Body) (pc : ℕ) (family : Family) (x : ℕ × Family) (rest : Body) (height : ℕ) (straight : Bool) (written : List ℕ) → IsRead code body ((pc, family) ∷ x ∷ rest) height straight written
-    → IsRead code body (x ∷ rest) (height_behind height family) (straight_behind (all_targets body) straight pc family) (written_behind (all_targets body) straight written pc family)
-read-behind code body pc family x rest height straight written read =
+-- the reading goes on after an instruction
+pub read-after : (code : CodeAttr) (body : Body) (pc : ℕ) (family : Family) (x : ℕ × Family) (rest : Body) (height : ℕ) (straight : Bool) (written : List ℕ) → IsRead code body ((pc, family) ∷ x ∷ rest) height straight written
+    → IsRead code body (x ∷ rest) (height_after height family) (straight_after (all_targets body) straight pc family) (written_after (all_targets body) straight written pc family)
+read-after code body pc family x rest height straight written read =
     record {
       low = suc pc;
       rises = read.rises.2;
@@ -158,6 +158,6 @@ read-to code body ((pc, family) ∷ x ∷ rest) height straight written read to 
     elim (eqb pc to) as (λ b. (eqb pc to ≡ b → ReadTo code body to)) [
       | true ↦ λ same. subst (ReadTo code body) (eqb-true pc to same) (record { family = family; rest = x ∷ rest; height = height; straight = straight; written = written; read = read })
       | false ↦ λ other.
-          read-to code body (x ∷ rest) (height_behind height family) (straight_behind (all_targets body) straight pc family) (written_behind (all_targets body) straight written pc family)
-          (read-behind code body pc family x rest height straight written read) to (sym (ap (λ b. b || has_pc (x ∷ rest) to) other) ∙ e)
+          read-to code body (x ∷ rest) (height_after height family) (straight_after (all_targets body) straight pc family) (written_after (all_targets body) straight written pc family)
+          (read-after code body pc family x rest height straight written read) to (sym (ap (λ b. b || has_pc (x ∷ rest) to) other) ∙ e)
     ] refl

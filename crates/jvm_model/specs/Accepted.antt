@@ -2,7 +2,7 @@
 -- file so far; a file is a list of bytes.
 use Rattle.std.specs.Prelude.{◌≡◌, ℕ, suc, ◌<◌, ◌≤◌, ◌⊎◌, Bool, true, false, List, [], ◌∷◌, length, Option, Some, None}
 use Rattle.std.specs.Option.{option_map_or}
-use Rattle.class_pool.specs.Pool.{Places}
+use Rattle.class_pool.specs.Pool.{Slots}
 use Rattle.class_file.specs.declared.record.ClassFile.{ClassFile}
 use Rattle.class_file.specs.declared.record.CodeAttr.{CodeAttr}
 use Rattle.class_file.specs.declared.record.HandlerRow.{HandlerRow}
@@ -53,7 +53,7 @@ abbrev pub refusal_of_main : Cause → ℕ → Refusal
 refusal_of_main why value = record { cause = why; file = 0; member = 0; pc = 0; value = value }
 
 -- the instruction is one of the number form
-abbrev pub is_plain_insn : Places → Insn → Bool
+abbrev pub is_plain_insn : Slots → Insn → Bool
 is_plain_insn pool insn = option_map_or is_of_form (family_of pool insn) false
 
 abbrev pub unbuilt_at : ℕ → ℕ → ℕ → Refusal
@@ -75,18 +75,18 @@ IfThere Has None found = found ≡ None
 IfThere Has (Some x) found = Has x found
 
 -- an instruction is refused that is reached and outside the form
-abbrev pub OutsideInsn : ℕ → ℕ → Places → Ways → ℕ → ℕ × Insn → Option Refusal → Type 0
+abbrev pub OutsideInsn : ℕ → ℕ → Slots → Ways → ℕ → ℕ × Insn → Option Refusal → Type 0
 OutsideInsn file member pool ways place x None = IsReached ways x.0 → is_plain_insn pool x.1 ≡ true
 OutsideInsn file member pool ways place x (Some why) = IsReached ways x.0 × (is_plain_insn pool x.1 ≡ false) × (why ≡ unbuilt_at file member x.0)
 
 -- the first such instruction in the order of the code, which has this exception table
-abbrev pub OutsideInsns : ℕ → ℕ → Places → List HandlerRow → Insns → Option Refusal → Type 0
+abbrev pub OutsideInsns : ℕ → ℕ → Slots → List HandlerRow → Insns → Option Refusal → Type 0
 OutsideInsns file member pool rows insns found = FirstOf (OutsideInsn file member pool (code_ways rows insns)) 0 insns found
 
-abbrev pub OutsideCode : ℕ → ℕ → Places → CodeAttr → Option Refusal → Type 0
+abbrev pub OutsideCode : ℕ → ℕ → Slots → CodeAttr → Option Refusal → Type 0
 OutsideCode file member pool code found = IfThere (OutsideInsns file member pool code.handlers) (insns_in (decoded code.code)) found
 
-abbrev pub OutsideMethod : ℕ → Places → ℕ → Member → Option Refusal → Type 0
+abbrev pub OutsideMethod : ℕ → Slots → ℕ → Member → Option Refusal → Type 0
 OutsideMethod file pool member m found = IfThere (OutsideCode file member pool) m.code found
 
 -- the first method of a class with such an instruction

@@ -4,7 +4,7 @@ use Rattle.class_code.specs.declared.insn.ValueKind.TheVariants as value
 use Rattle.class_code.specs.declared.insn.Insn.{Insn}
 use Rattle.class_code.specs.declared.insn.Insn.TheVariants as insns
 use Rattle.class_code.specs.Code.{Insns}
-use Rattle.class_pool.specs.Pool.{Places, integer_at}
+use Rattle.class_pool.specs.Pool.{Slots, integer_at}
 use Rattle.class_pool.specs.Members.{MemberName, method_name_at, is_member}
 use Rattle.jvm_model.specs.State.{Whole}
 use Rattle.jvm_model.specs.Program.{Native, WriteByte, PrintNumber, ReadByte, OfLibrary, Family, Nop, Const, Load, Store, Inc, Stack, Bin, Negate, Convert, If, IfCmp, Goto, Switch, CallStatic, Return, Placed}
@@ -27,7 +27,7 @@ native_of named =
     else None))
 
 -- the family of an instruction on whole numbers; instructions of other families have none yet
-abbrev pub family_of : Places → Insn → Option Family
+abbrev pub family_of : Slots → Insn → Option Family
 family_of pool insns.Nop = Some Nop
 family_of pool (insns.Push number) = Some (Const (Whole number))
 family_of pool (insns.Ldc index) = option_map (λ number. Const (Whole number)) (integer_at pool index)
@@ -47,7 +47,7 @@ family_of pool (insns.Return None) = Some Return
 family_of pool _ = None
 
 -- the body of instructions, where each has a family
-abbrev pub families_of : Places → Insns → Option Body
+abbrev pub families_of : Slots → Insns → Option Body
 families_of pool [] = Some []
 families_of pool ((pc, insn) ∷ insns) =
     option_and_then (λ family. option_map (λ body. (pc, family) ∷ body) (families_of pool insns)) (family_of pool insn)
@@ -59,7 +59,7 @@ abbrev pub first_pc : Body → ℕ → ℕ
 first_pc [] end = end
 first_pc (x ∷ body) end = x.0
 
--- the family at a pc of a body whose code has its end there, and the pc behind it
+-- the family at a pc of a body whose code has its end there, and the pc after it
 abbrev pub placed_in : Body → ℕ → ℕ → Option Placed
 placed_in [] end pc = None
 placed_in ((at, family) ∷ body) end pc = if at == pc then Some (record { family = family; next = first_pc body end }) else placed_in body end pc

@@ -124,7 +124,7 @@ family_bytes slot place family = flat_map emitted_bytes (expanded slot place fam
 abbrev pub size_of : (slot : ℕ → ℕ) → Family → ℕ
 size_of slot family = length (family_bytes slot (λ pc. 0) family)
 
--- the offset of a pc: the bytes of all instructions in front of it
+-- the offset of a pc: the bytes of all instructions before it
 unfoldable pub offset_of : (slot : ℕ → ℕ) → Body → ℕ → ℕ
 offset_of slot [] pc = 0
 offset_of slot ((at, family) ∷ body) pc = if nat_lt at pc then size_of slot family + offset_of slot body pc else 0

@@ -2,7 +2,7 @@
 use Rattle.std.specs.Prelude.{ℕ, zero, suc, ◌+◌, ◌*◌, ◌==◌, max, Bool, false, if◌then◌else◌, [], ◌∷◌, Option, Some, None}
 use Rattle.std.specs.List.{list_any}
 use Rattle.jvm_model.specs.Body.{Body}
-use Rattle.jvm_model.specs.NumberForm.{writes, height_behind}
+use Rattle.jvm_model.specs.NumberForm.{writes, height_after}
 
 -- how many cells a whole number has, as a local and as an operand: two so far
 abbrev pub number_cells : ℕ
@@ -28,7 +28,7 @@ slot_of body local = cells_below body local
 -- the greatest height of the operand stack, from this height on
 abbrev pub greatest_height : ℕ → Body → ℕ
 greatest_height height [] = height
-greatest_height height (x ∷ body) = max height (greatest_height (height_behind height x.1) body)
+greatest_height height (x ∷ body) = max height (greatest_height (height_after height x.1) body)
 
 -- the cells of the locals and of the most operands
 abbrev pub body_cells : ℕ → Body → ℕ

@@ -12,7 +12,7 @@ use Rattle.cell_num.specs.Conditions.{is_met}
 use Rattle.cell_num.specs.Conversions.{converted}
 use Rattle.dialogue.specs.Dialogue.{Get, putting}
 use Rattle.dialogue.specs.Limits.{Limits}
-use Rattle.dialogue.specs.Natives.{low_byte, next_byte, behind_byte}
+use Rattle.dialogue.specs.Natives.{low_byte, next_byte, after_byte}
 use Rattle.dialogue.specs.Outcome.{Outcome}
 use Rattle.dialogue.specs.Run as run
 use Rattle.dialogue.specs.Run.{Step, Goes, Ends, Stuck, Progress, Running, Over}
@@ -150,7 +150,7 @@ step_read budget state frame others next =
       frames = record frame { pc = next; operands = Whole (next_byte state.input) ∷ frame.operands } ∷ others;
       objects = state.objects;
       statics = state.statics;
-      input = behind_byte state.input;
+      input = after_byte state.input;
       ticks = state.ticks + 1;
     }))
 
@@ -162,7 +162,7 @@ step_native budget state frame others next ReadByte = step_read budget state fra
 abbrev pub step_call : ℕ → State → Frame → List Frame → ℕ → Callee → Step State Ending
 step_call budget state frame others next (OfLibrary native) = step_native budget state frame others next native
 
--- the caller goes on behind its call; the return of the oldest frame ends the run
+-- the caller goes on after its call; the return of the oldest frame ends the run
 abbrev pub resume : State → Frame → List Frame → Option Placed → Step State Ending
 resume state caller others None = Stuck
 resume state caller others (Some call) = Goes [] (with_frame state (record caller { pc = call.next }) others)

@@ -45,9 +45,9 @@ pushes (Convert conv) = 1
 pushes (CallStatic (OfLibrary ReadByte)) = 1
 pushes _ = 0
 
--- the height behind it
-abbrev pub height_behind : ℕ → Family → ℕ
-height_behind height family = height - pops family + pushes family
+-- the height after it
+abbrev pub height_after : ℕ → Family → ℕ
+height_after height family = height - pops family + pushes family
 
 -- where it may jump
 abbrev pub targets : Family → List ℕ
@@ -64,7 +64,7 @@ is_jump (Goto target) = true
 is_jump (Switch form rows default) = true
 is_jump _ = false
 
--- it does not go on behind itself
+-- it does not go on after itself
 abbrev pub is_final : Family → Bool
 is_final (Goto target) = true
 is_final (Switch form rows default) = true
@@ -98,7 +98,7 @@ family_way family = record { goes_on = not (is_final family); targets = targets 
 abbrev pub body_ways : Body → Ways
 body_ways body = map (λ x. (x.0, family_way x.1)) body
 
--- the last instruction does not go on behind itself
+-- the last instruction does not go on after itself
 abbrev pub EndsThere : Body → Type 0
 EndsThere [] = ⊥
 EndsThere (x ∷ []) = is_final x.1 ≡ true
@@ -113,9 +113,9 @@ IsBalanced max_stack arrivals height [] = Unit {0}
 IsBalanced max_stack arrivals height ((pc, family) ∷ body) =
     (is_in arrivals pc ≡ true → height ≡ 0)
     × (pops family ≤ height)
-    × (height_behind height family ≤ max_stack)
-    × ((is_jump family || is_final family) ≡ true → height_behind height family ≡ 0)
-    × IsBalanced max_stack arrivals (height_behind height family) body
+    × (height_after height family ≤ max_stack)
+    × ((is_jump family || is_final family) ≡ true → height_after height family ≡ 0)
+    × IsBalanced max_stack arrivals (height_after height family) body
 
 -- ---- locals
 

@@ -1,4 +1,4 @@
--- The first phases of the verdict, one behind the other: how large the set is, the reading of each file,
+-- The first phases of the verdict, one after the other: how large the set is, the reading of each file,
 -- and the code of each method. Each gives the first refusal in the order of files, methods and pcs, or
 -- none.
 use Rattle.std.specs.Prelude.{ℕ, suc, nat_lt, nat_le, if◌then◌else◌, List, [], ◌∷◌, length, map, Option, Some, None, option_map, option_and_then, Result, Ok, Err}

@@ -40,7 +40,7 @@ pub data Family : Type 0 where
   CallStatic : (callee : Callee) → Family
   Return : Family
 
--- a family, and the pc behind its instruction
+-- a family, and the pc after its instruction
 pub record Placed : Type 0 where
   pub family : Family
   pub next : ℕ

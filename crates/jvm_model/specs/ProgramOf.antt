@@ -5,7 +5,7 @@ use Rattle.class_code.specs.Code.{Insns, decoded}
 use Rattle.class_file.specs.declared.record.ClassFile.{ClassFile}
 use Rattle.class_file.specs.declared.record.Member.{Member}
 use Rattle.class_file.specs.declared.record.CodeAttr.{CodeAttr}
-use Rattle.class_pool.specs.Pool.{Places}
+use Rattle.class_pool.specs.Pool.{Slots}
 use Rattle.jvm_model.specs.Program.{Placed, Program}
 use Rattle.jvm_model.specs.Body.{Body, families_of, placed_in}
 
@@ -18,11 +18,11 @@ insns_in (Ok insns) = Some insns
 insns_in (Err why) = None
 
 -- the body of some code, where it is instructions that have a family each
-abbrev pub body_of : Places → CodeAttr → Option Body
+abbrev pub body_of : Slots → CodeAttr → Option Body
 body_of pool code = option_and_then (families_of pool) (insns_in (decoded code.code))
 
 -- the family at a pc of some code
-abbrev pub family_in : Places → ℕ → CodeAttr → Option Placed
+abbrev pub family_in : Slots → ℕ → CodeAttr → Option Placed
 family_in pool pc code = option_and_then (λ body. placed_in body (length code.code) pc) (body_of pool code)
 
 abbrev pub code_of_method : List Member → ℕ → Option CodeAttr

@@ -6,7 +6,7 @@ use Rattle.class_code.specs.declared.insn.Insn.{Insn}
 use Rattle.class_code.specs.declared.insn.Insn.TheVariants.{Goto, Switch, Return, Throw}
 use Rattle.class_code.specs.Code.{Insns, targets as jumps_of}
 
--- where an instruction leads: whether it goes on behind itself, and to which pcs it leads besides
+-- where an instruction leads: whether it goes on after itself, and to which pcs it leads besides
 pub record Way : Type 0 where
   pub goes_on : Bool
   pub targets : List ℕ
@@ -17,10 +17,10 @@ Ways = List (ℕ × Way)
 
 -- ---- what is reached
 
--- the pcs to which an instruction leads, where these stand behind it
+-- the pcs to which an instruction leads, where these follow it
 abbrev pub successors : Way → Ways → List ℕ
 successors way [] = way.targets
-successors way (x ∷ behind) = if way.goes_on then x.0 ∷ way.targets else way.targets
+successors way (x ∷ suffix) = if way.goes_on then x.0 ∷ way.targets else way.targets
 
 -- A set of pcs, as a test, is closed where it has, with a pc, all pcs to which its instruction leads.
 abbrev pub IsClosed : (ℕ → Bool) → Ways → Type 0
@@ -33,7 +33,7 @@ IsReached ways pc = (holds : ℕ → Bool) → holds 0 ≡ true → IsClosed hol
 
 -- ---- the ways of code
 
--- it goes on behind itself
+-- it goes on after itself
 abbrev pub goes_on : Insn → Bool
 goes_on (Goto target) = false
 goes_on (Switch form default rows) = false

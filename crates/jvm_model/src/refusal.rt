@@ -22,7 +22,7 @@ pub enum Cause {
     Trailing,
     /// The first instruction that fails is one that is left out; the value is its opcode.
     Unsupported,
-    /// No instruction stands at the pc, or its target, or a bound or the handler of the handler that
+    /// No instruction is at the pc, or its target, or a bound or the handler of the handler that
     /// starts there, is no start of an instruction.
     BadCode,
     /// The set is of no form that is built; the place is that of the first instruction that is reached and

@@ -3,7 +3,7 @@ use Rattle.std.proofs.Common.{◌≡◌, ℕ, ℤ, ◌+◌, ◌<◌, ◌≤◌, 
 use Rattle.std.specs.Prelude.{nat_le, nat_lt, option_map}
 use Rattle.dialogue.specs.Dialogue.{Item, Get, putting}
 use Rattle.dialogue.specs.Limits.{Limits}
-use Rattle.dialogue.specs.Natives.{next_byte, behind_byte}
+use Rattle.dialogue.specs.Natives.{next_byte, after_byte}
 use Rattle.dialogue.specs.Run.{Step, Goes, Ends, Stuck}
 use Rattle.cell_num.specs.Cells.{low_cell, high_cell}
 use Rattle.host_face.specs.Talk.{Talked, BrokeOff}

@@ -9,7 +9,7 @@ use Rattle.image_form.specs.declared.record.Image.{Image}
 use Rattle.image_form.specs.declared.record.Method.{Method}
 use Rattle.image_check.specs.Built.{is_built}
 use Rattle.image_check.specs.Ids.{HasIds}
-use Rattle.image_check.specs.Visits.{HasOperands, FitsBody, moved_by, behind, depth}
+use Rattle.image_check.specs.Visits.{HasOperands, FitsBody, moved_by, suffix, depth}
 use Rattle.mote_model.specs.State.{Frame}
 use Rattle.mote_core.specs.Turns.{CanRun, IsNative, IsWrite, IsRead, IsPrint}
 
@@ -18,7 +18,7 @@ module _ (image : Image) (method : Method) (frame : Frame) (room refs : ℕ) (lo
   Operands insn = HasOperands (moved_by image insn) (depth refs (length frame.cells.operands))
 
   abbrev Fits : MInsn → Type 0
-  Fits insn = FitsBody method (behind (moved_by image insn) (depth refs (length frame.cells.operands)))
+  Fits insn = FitsBody method (suffix (moved_by image insn) (depth refs (length frame.cells.operands)))
 
   above : (m : ℕ) → is_built (insns.CallS (suc (suc (suc (suc m))))) ≡ true → ⊥
   above m built = grind arith

@@ -10,14 +10,14 @@ use Rattle.cell_num.specs.Arithmetic.{applied}
 use Rattle.cell_num.specs.Conditions.{is_met}
 use Rattle.cell_num.proofs.IntResults.{applied-fits}
 use Rattle.dialogue.specs.Limits.{Limits}
-use Rattle.dialogue.specs.Natives.{next_byte, behind_byte}
+use Rattle.dialogue.specs.Natives.{next_byte, after_byte}
 use Rattle.image_instr.specs.declared.insn.SwitchRow.{SwitchRow}
 use Rattle.image_instr.specs.declared.insn.Condition.{Condition}
 use Rattle.image_instr.specs.declared.insn.Operation.{Operation}
 use Rattle.image_instr.specs.Effect.{moves}
 use Rattle.image_instr.specs.Switch.{target_in}
 use Rattle.image_form.specs.declared.record.Image.{Image}
-use Rattle.image_check.specs.Visits.{depth, behind, IsSent}
+use Rattle.image_check.specs.Visits.{depth, suffix, IsSent}
 use Rattle.mote_model.specs.State.{State}
 use Rattle.mote_model.specs.Numbers.{with_number, op_of, cond_of}
 use Rattle.mote_model.specs.Machine.{goes_on, jumps, goes_with, without, local_cells, with_local, step_load, step_store, step_inc, step_result, step_bin, step_neg, step_cell, step_jz, step_jcmp, step_switch, step_show, step_read}
@@ -46,9 +46,9 @@ read-fits [] = record { sfits = omega arith }
 read-fits (byte ∷ input) = pos-fits _ (omega arith)
 
 module _ (image : Image) (limits : Limits) (state : State) (good : IsGood image state) (within : state.ticks ≤ limits.ticks) (before : good.frame.pc < length good.method.code) where
-  -- the depth behind what pops and pushes so many cells, over these operands, reaches the offset
+  -- the depth after what pops and pushes so many cells, over these operands, reaches the offset
   abbrev pub Moves : ℕ → ℕ → List ℕ → ℕ → Type 0
-  Moves popped pushed operands to = IsSent image good.method.code to (behind (moves 0 0 popped pushed) (depth (length good.frame.refs.operands) (length operands)))
+  Moves popped pushed operands to = IsSent image good.method.code to (suffix (moves 0 0 popped pushed) (depth (length good.frame.refs.operands) (length operands)))
 
   come : (popped pushed : ℕ) (to : ℕ) (from operands : List ℕ) → Moves popped pushed from to → length from - popped + pushed ≡ length operands → Reaches image limits state good to operands
   come popped pushed to from operands sent e = reaches image limits state good (moves 0 0 popped pushed) to from operands sent refl refl e
@@ -194,6 +194,6 @@ module _ (image : Image) (limits : Limits) (state : State) (good : IsGood image 
   read-good next sent =
       let operands : List ℕ = with_number (next_byte state.input) good.frame.cells.operands in
       if_room image limits state good _
-      (λ room. ticking image limits state good room next good.frame.cells.locals operands (behind_byte state.input)
+      (λ room. ticking image limits state good room next good.frame.cells.locals operands (after_byte state.input)
       (same_locals image limits state good next operands (come 0 2 next good.frame.cells.operands operands sent (omega arith))
       (with_number-cells (next_byte state.input) good.frame.cells.operands (read-fits state.input) good.operands)))

@@ -9,7 +9,7 @@ use Rattle.dialogue.specs.Outcome.{Outcome}
 use Rattle.dialogue.specs.Run.{Step, Goes, Ends, Stuck, Progress, Running, Over, advance, after_step, run_from}
 use Rattle.dialogue.proofs.Simulation.{run_from-more}
 use Rattle.host_face.specs.Talk.{Talked, BrokeOff}
-use Rattle.host_face.proofs.TalkLemmas.{Talked-nothing, Talked-then, BrokeOff-then, BrokeOff-front}
+use Rattle.host_face.proofs.TalkLemmas.{Talked-nothing, Talked-then, BrokeOff-then, BrokeOff-prefix}
 use Rattle.image_instr.specs.declared.insn.MInsn.{MInsn}
 use Rattle.image_instr.specs.Reading.{insn_at, rows_at}
 use Rattle.image_form.specs.declared.record.Image.{Image}
@@ -26,7 +26,7 @@ use Rattle.mote_core.specs.Good.{IsGood, IsNearer, IsGoodStep, left_of, IsStepEn
 use Rattle.mote_core.specs.Ran.{MayEnd, Ended, Failed, Ran, IsEndingSoFar}
 use Rattle.mote_core.specs.Turns.{AreCells, CanRun, IsTurn, Runs, meaning}
 use Rattle.mote_core.specs.Acts.{Place, IsPlaceOf, Tells, TellsNow, with_input, place, Shows, Acts}
-use Rattle.mote_core.proofs.Progress.{stands_here, step_good, start_good, ends_from}
+use Rattle.mote_core.proofs.Progress.{holds_here, step_good, start_good, ends_from}
 use Rattle.mote_core.proofs.Sent.{Stands}
 use Rattle.mote_core.proofs.CanRun.{can_run}
 
@@ -35,7 +35,7 @@ pub record HasCome (image : Image) (limits : Limits) (input : List ℕ) (said : 
   pub steps : ℕ
   pub running : run_from (machine image limits) (start_of image limits input) steps ≡ Running said state
 
--- what is left at a place: its ticks, and the bytes of the code behind its pc
+-- what is left at a place: its ticks, and the bytes of the code after its pc
 abbrev pub left_at : List ℕ → Place → ℕ
 left_at code place = place.left * (length code + 1) + (length code - place.pc)
 
@@ -95,7 +95,7 @@ module _ (image : Image) (limits : Limits) (state : State) (place : Place) (is :
       let pc : good.frame.pc ≡ place.pc = sym pc_is in
       λ i. ticks i * (length good.method.code + 1) + (length good.method.code - pc i)
 
-  -- the step from a good state is that of the instruction that stands at its pc
+  -- the step from a good state is that of the instruction that is at its pc
   pub step_is : (insn : MInsn) (size : ℕ) → insn_at (drop good.frame.pc good.method.code) ≡ Some (insn, size)
       → step_frames image limits state state.frames ≡ step_insn limits state good.frame [] (good.frame.pc + size) insn (rows_at insn (drop good.frame.pc good.method.code))
   step_is insn size found =
@@ -106,15 +106,15 @@ module _ (image : Image) (limits : Limits) (state : State) (place : Place) (is :
   -- and it can run on the machine's cells
   pub can_here : IsChecked image → IsBuilt image → (insn : MInsn) (size capacity : ℕ) → insn_at (drop good.frame.pc good.method.code) ≡ Some (insn, size) → good.method.body ≤ capacity → CanRun insn good.frame capacity
   can_here checked built insn size capacity found fits =
-      let stands = stands_here image checked built state good in
+      let stands = holds_here image checked built state good in
       let right = stands.right in
-      let can = can_run image good.method good.frame capacity (length good.frame.refs.operands) good.cell_locals fits right.insn stands.built stands.ids right.operands right.fits_behind in
+      let can = can_run image good.method good.frame capacity (length good.frame.refs.operands) good.cell_locals fits right.insn stands.built stands.ids right.operands right.fits_after in
       subst (λ insn. CanRun insn good.frame capacity) (some_pair_parts right.insn insn right.size size (sym right.found ∙ found)).0 can
 
-  -- an instruction stands at its pc
+  -- an instruction is at its pc
   pub not_none : IsChecked image → IsBuilt image → insn_at (drop good.frame.pc good.method.code) ≡ None → ⊥
   not_none checked built none =
-      none-some _ (sym none ∙ (stands_here image checked built state good).right.found)
+      none-some _ (sym none ∙ (holds_here image checked built state good).right.found)
 
 -- the input does not count
 other_input : (image : Image) (state : State) (input : List ℕ) → IsGood image state → IsGood image (with_input state input)
@@ -183,7 +183,7 @@ module _ {C : Type 0} (left shown noted : C → Option (List ℕ)) (faults : C �
     runs-at insn size capacity found fits =
         record { frame = g.good.frame; are = cells_are ready.image (limits_of ready ticks) g.state before g.is g.good; can = can-at insn size capacity found fits }
 
-    -- an instruction stands at each pc that is reached
+    -- an instruction is at each pc that is reached
     pub none-at : insn_at (drop before.pc code) ≡ None → ⊥
     none-at none =
         not_none ready.image (limits_of ready ticks) g.state before g.is g.good checked built (sym (ap insn_at bytes_are) ∙ none)
@@ -308,7 +308,7 @@ module _ {C : Type 0} (left shown noted : C → Option (List ℕ)) (faults : C �
               over = run_from-more whole (start_of ready.image (limits_of ready ticks) input) come.steps rest.0 ∙ ap (λ from. run_from whole from rest.0) come.running ∙ rest.4;
               left = refl;
             });
-        broke = BrokeOff-front shown noted faults room old new (g.said ++ items) rest.1
+        broke = BrokeOff-prefix shown noted faults room old new (g.said ++ items) rest.1
             (BrokeOff-then shown noted faults room old now new g.said items g.talked broke);
       }
 

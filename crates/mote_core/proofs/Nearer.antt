@@ -6,7 +6,7 @@ use Rattle.dialogue.specs.Limits.{Limits}
 use Rattle.dialogue.specs.Run.{Step, Ends}
 use Rattle.image_instr.specs.declared.signature.Effect.{Effect}
 use Rattle.image_form.specs.declared.record.Image.{Image}
-use Rattle.image_check.specs.Visits.{Depth, depth, behind, IsSent}
+use Rattle.image_check.specs.Visits.{Depth, depth, suffix, IsSent}
 use Rattle.mote_model.specs.declared.ending.Ending.{Ending}
 use Rattle.mote_model.specs.declared.ending.Ending.TheVariants.{Spent}
 use Rattle.mote_model.specs.State.{State}
@@ -31,7 +31,7 @@ module _ (image : Image) (limits : Limits) (state : State) (good : IsGood image 
   Reaches to operands = IsSent image good.method.code to (depth (length good.frame.refs.operands) (length operands))
 
   -- what is sent by an instruction that moves no references
-  pub reaches : (effect : Effect) (to : ℕ) (from operands : List ℕ) → IsSent image good.method.code to (behind effect (depth (length good.frame.refs.operands) (length from)))
+  pub reaches : (effect : Effect) (to : ℕ) (from operands : List ℕ) → IsSent image good.method.code to (suffix effect (depth (length good.frame.refs.operands) (length from)))
       → effect.ref_pop ≡ 0 → effect.ref_push ≡ 0 → length from - effect.cell_pop + effect.cell_push ≡ length operands → Reaches to operands
   reaches effect to from operands sent none no_more cells =
       let refs : length good.frame.refs.operands - effect.ref_pop + effect.ref_push ≡ length good.frame.refs.operands = omega arith in
@@ -70,7 +70,7 @@ module _ (image : Image) (limits : Limits) (state : State) (good : IsGood image 
         operands = fits.operands_are;
       }
 
-  -- the code goes on behind the instruction
+  -- the code goes on after the instruction
   pub onward : state.ticks ≤ limits.ticks → good.frame.pc < length good.method.code → (to : ℕ) (locals operands : List ℕ) → good.frame.pc < to → Fits to locals operands
       → IsNearer image limits state good (moved_to to locals operands state.ticks state.input)
   unfolding good_at
@@ -99,7 +99,7 @@ module _ (image : Image) (limits : Limits) (state : State) (good : IsGood image 
       (λ e. h (leb-true (state.ticks + 1) limits.ticks e))
       (λ e. tt)
 
-  -- the three ways on: behind the instruction, a jump that is taken, and a branch
+  -- the three ways on: after the instruction, a jump that is taken, and a branch
   pub goes-good : state.ticks ≤ limits.ticks → good.frame.pc < length good.method.code → (to : ℕ) (operands : List ℕ) → good.frame.pc < to → Reaches to operands → AllByRecursion IsCell operands
       → IsGoodStep image limits state good (goes_on state good.frame [] to operands)
   goes-good within before to operands further reached all =

@@ -24,16 +24,16 @@ use Rattle.mote_core.proofs.Steps.{insn-good}
 
 -- ---- a step
 
--- what stands at the pc of a good state
-pub stands_here : (image : Image) → IsChecked image → IsBuilt image → (state : State) (good : IsGood image state) → Stands image good.method good.frame.pc (depth (length good.frame.refs.operands) (length good.frame.cells.operands))
-stands_here image checked built state good =
+-- what is at the pc of a good state
+pub holds_here : (image : Image) → IsChecked image → IsBuilt image → (state : State) (good : IsGood image state) → Stands image good.method good.frame.pc (depth (length good.frame.refs.operands) (length good.frame.cells.operands))
+holds_here image checked built state good =
     right_at image checked built image.main good.method good.is_main good.frame.pc
     (depth (length good.frame.refs.operands) (length good.frame.cells.operands)) good.sent
 
 -- a step from a good state is a good step: it ends the run, or leads to a good state that has less left
 pub step_good : (image : Image) → IsImage image → IsChecked image → IsBuilt image → (limits : Limits) (state : State) (good : IsGood image state) → state.ticks ≤ limits.ticks → IsGoodStep image limits state good (step_frames image limits state state.frames)
 step_good image is_image checked built limits state good within =
-    let stands = stands_here image checked built state good in
+    let stands = holds_here image checked built state good in
     let right = stands.right in
     let bytes = drop good.frame.pc good.method.code in
     let done : IsGoodStep image limits state good (step_insn limits state good.frame [] (good.frame.pc + right.size) right.insn (rows_at right.insn bytes)) =
@@ -64,7 +64,7 @@ start_good image is_image checked built method is_main input =
 
 -- ---- the end
 
--- the run from this state ends, behind what was said
+-- the run from this state ends, after what was said
 abbrev ComesToEnd : Image → Limits → State → List Item → Type 0
 ComesToEnd image limits state said =
     (steps : ℕ) × (more : List Item) × (last : State) × (ending : Ending) × (run_from (machine image limits) (Running said state) steps ≡ Over (said ++ more) last ending) × IsStepEnding ending

@@ -1,4 +1,4 @@
--- A depth that reaches an offset: an instruction stands there, of which all rules hold, and the depth behind
+-- A depth that reaches an offset: an instruction stands there, of which all rules hold, and the depth after
 -- it reaches each offset to which it leads.
 use Rattle.std.proofs.Common.{◌≡◌, ℕ, zero, suc, ◌+◌, ◌-◌, ◌<◌, Bool, true, false, cond, ◌||◌, if◌then◌else◌, List, [], ◌∷◌, ◌++◌, length, drop, slice_get, nat_le, nat_lt, Some, None, sym, ap, subst, ◌∙◌, arith, ⊎_elim, drop_of_length-le}
 use Rattle.std.specs.List.{AllByRecursion}
@@ -12,10 +12,10 @@ use Rattle.image_check.specs.Built.{is_built}
 use Rattle.image_check.specs.Checked.{IsCheckedMethod, IsChecked, IsBuiltMethod, IsBuilt}
 use Rattle.image_check.specs.Code.{Insns, IsStart, JumpsToStarts, targets}
 use Rattle.image_check.specs.Ids.{HasIds}
-use Rattle.image_check.specs.Visits.{Depth, depth, moved_by, behind, HasOperands, goes_on, successors, IsClosed, IsSent, IsRight}
+use Rattle.image_check.specs.Visits.{Depth, depth, moved_by, suffix, HasOperands, goes_on, successors, IsClosed, IsSent, IsRight}
 use Rattle.mote_model.specs.Machine.{method_of}
 use Rattle.mote_core.proofs.Sizes.{PushesInt, found_sized}
-use Rattle.mote_core.proofs.Starts.{is_start, start_tells, holds_at, front_start, goes_to_start, same_insns}
+use Rattle.mote_core.proofs.Starts.{is_start, start_tells, holds_at, prefix_start, goes_to_start, same_insns}
 
 -- ---- lists
 
@@ -37,7 +37,7 @@ pub found_inside : (code : List ℕ) (pc : ℕ) (found : MInsn × ℕ) → insn_
 found_inside code pc found e =
     ⊎_elim (λ lt. lt) (λ le. absurd (none-some found (sym (ap insn_at (drop_of_length-le code le)) ∙ e))) (cases_lt pc (length code))
 
--- ---- the starts are a closed set, and so is what is behind the end
+-- ---- the starts are a closed set, and so is what is after the end
 
 module _ (image : Image) (method : Method) (checked : IsCheckedMethod image method) where
   abbrev on_starts : ℕ → ℕ → ℕ → Bool
@@ -73,13 +73,13 @@ module _ (image : Image) (method : Method) (checked : IsCheckedMethod image meth
       let right = checked.right 0 (depth 0 0) (λ holds here closed. here) in
       ⊎_elim (λ start. start)
       (λ none. let inside = found_inside method.code 0 (right.insn, right.size) right.found in absurd (omega (arith, inside, none)))
-      (front_start 0 method.code checked.insns checked.code.0 checked.code.1)
+      (prefix_start 0 method.code checked.insns checked.code.0 checked.code.1)
 
   pub sent_start : (pc : ℕ) (d : Depth) (found : MInsn × ℕ) → IsSent image method.code pc d → insn_at (drop pc method.code) ≡ Some found → is_start checked.insns pc ≡ true
   sent_start pc d found sent e =
       start_here pc found e (sent on_starts (or_left (is_start checked.insns 0) (nat_le (length method.code) 0) first_start) starts_closed)
 
--- ---- the depth behind an instruction
+-- ---- the depth after an instruction
 
 -- what each closed set has of all offsets, it has of each
 each_sent : (image : Image) (code : List ℕ) (d : Depth) (tos : List ℕ)
@@ -90,15 +90,15 @@ each_sent image code d (to ∷ tos) h =
     (λ holds start closed. (h holds start closed).0, each_sent image code d tos (λ holds start closed. (h holds start closed).1))
 
 pub sent_on : (image : Image) (code : List ℕ) (pc : ℕ) (d : Depth) (insn : MInsn) (size : ℕ) → IsSent image code pc d → insn_at (drop pc code) ≡ Some (insn, size) → HasOperands (moved_by image insn) d
-    → AllByRecursion (λ to. IsSent image code to (behind (moved_by image insn) d)) (successors code pc insn size)
+    → AllByRecursion (λ to. IsSent image code to (suffix (moved_by image insn) d)) (successors code pc insn size)
 sent_on image code pc d insn size sent found operands =
-    each_sent image code (behind (moved_by image insn) d) (successors code pc insn size)
+    each_sent image code (suffix (moved_by image insn) d) (successors code pc insn size)
     (λ holds start closed. closed pc d.refs d.cells insn size (sent holds start closed) found operands)
 
 -- ---- what stands where a depth reaches
 
 -- the instruction, whose operands and rules IsRight tells; its ids are there, the machine runs it, it has bytes,
--- its number is an int, it stands inside the code, and the depth behind it reaches where it leads
+-- its number is an int, it stands inside the code, and the depth after it reaches where it leads
 pub record Stands (image : Image) (method : Method) (pc : ℕ) (d : Depth) : Type 0 where
   pub right : IsRight image method pc d
   pub ids : HasIds image method right.insn
@@ -106,10 +106,10 @@ pub record Stands (image : Image) (method : Method) (pc : ℕ) (d : Depth) : Typ
   pub sized : 0 < right.size
   pub pushes : PushesInt right.insn
   pub before : pc < length method.code
-  pub sent : AllByRecursion (λ to. IsSent image method.code to (behind (moved_by image right.insn) d)) (successors method.code pc right.insn right.size)
+  pub sent : AllByRecursion (λ to. IsSent image method.code to (suffix (moved_by image right.insn) d)) (successors method.code pc right.insn right.size)
 
-pub stands_in : (image : Image) (method : Method) → IsCheckedMethod image method → IsBuiltMethod method → (pc : ℕ) (d : Depth) → IsSent image method.code pc d → Stands image method pc d
-stands_in image method checked built pc d sent =
+pub holds_in : (image : Image) (method : Method) → IsCheckedMethod image method → IsBuiltMethod method → (pc : ℕ) (d : Depth) → IsSent image method.code pc d → Stands image method pc d
+holds_in image method checked built pc d sent =
     let right = checked.right pc d sent in
     let start = sent_start image method checked pc d (right.insn, right.size) sent right.found in
     let has = found_sized (drop pc method.code) right.insn right.size right.found in
@@ -135,4 +135,4 @@ own_method P image id method all is = own (nat_lt id 32) is
 -- the instruction at an offset that a depth reaches
 pub right_at : (image : Image) → IsChecked image → IsBuilt image → (id : ℕ) (method : Method) → method_of image id ≡ Some method → (pc : ℕ) (d : Depth) → IsSent image method.code pc d → Stands image method pc d
 right_at image checked built id method is pc d sent =
-    stands_in image method (own_method (IsCheckedMethod image) image id method checked is) (own_method IsBuiltMethod image id method built.methods is) pc d sent
+    holds_in image method (own_method (IsCheckedMethod image) image id method checked is) (own_method IsBuiltMethod image id method built.methods is) pc d sent

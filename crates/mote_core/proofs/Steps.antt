@@ -18,7 +18,7 @@ use Rattle.image_form.specs.declared.record.Image.{Image}
 use Rattle.image_check.specs.Built.{is_built}
 use Rattle.image_check.specs.Code.{targets}
 use Rattle.image_check.specs.Ids.{HasIds}
-use Rattle.image_check.specs.Visits.{Depth, depth, moved_by, behind, HasOperands, IsSent}
+use Rattle.image_check.specs.Visits.{Depth, depth, moved_by, suffix, HasOperands, IsSent}
 use Rattle.image_check.specs.Visits as visits
 use Rattle.mote_model.specs.State.{State}
 use Rattle.mote_model.specs.Numbers.{with_number}
@@ -32,9 +32,9 @@ module _ (image : Image) (limits : Limits) (state : State) (good : IsGood image 
   abbrev here : Depth
   here = depth (length good.frame.refs.operands) (length good.frame.cells.operands)
 
-  -- the depth behind the instruction reaches the offset
+  -- the depth after the instruction reaches the offset
   abbrev SentBy : MInsn → ℕ → Type 0
-  SentBy insn to = IsSent image good.method.code to (behind (moved_by image insn) here)
+  SentBy insn to = IsSent image good.method.code to (suffix (moved_by image insn) here)
 
   -- a call of a native
   abbrev CallIsGood : ℕ → ℕ → Type 0

@@ -7,14 +7,14 @@ use Rattle.std.proofs.lemmas.Option.{slice_get-get_or}
 use Rattle.mote_model.specs.Machine.{local_cells, with_local}
 use Rattle.mote_core.specs.Turns.{AreCells}
 
--- cells on top of operands are behind the rest of the cells
+-- cells on top of operands are after the rest of the cells
 pub under : (locals tops operands : List ℕ) → locals ++ reverse (tops ++ operands) ≡ (locals ++ reverse operands) ++ reverse tops
 under locals tops operands =
     ap (λ (t : List ℕ). locals ++ t) (reverse-append tops operands) ∙ sym (append_assoc locals (reverse operands) (reverse tops))
 
--- four cells behind the rest are two behind two
-pub two_behind : (rest : List ℕ) (a b c d : ℕ) → rest ++ a ∷ b ∷ c ∷ d ∷ [] ≡ (rest ++ a ∷ b ∷ []) ++ c ∷ d ∷ []
-two_behind rest a b c d = sym (append_assoc rest (a ∷ b ∷ []) (c ∷ d ∷ []))
+-- four cells after the rest are two after two
+pub two_after : (rest : List ℕ) (a b c d : ℕ) → rest ++ a ∷ b ∷ c ∷ d ∷ [] ≡ (rest ++ a ∷ b ∷ []) ++ c ∷ d ∷ []
+two_after rest a b c d = sym (append_assoc rest (a ∷ b ∷ []) (c ∷ d ∷ []))
 
 -- what was pushed lies on the operands
 pub pushed : (old new locals operands tops : List ℕ) → AreCells old locals operands → new ≡ old ++ reverse tops → AreCells new locals (tops ++ operands)
@@ -27,8 +27,8 @@ height_of cells locals operands are =
 
 -- ---- locals
 
-slice_get-front : (xs ys : List ℕ) (i : ℕ) → i < length xs → slice_get (xs ++ ys) i ≡ slice_get xs i
-slice_get-front xs ys i lt =
+slice_get-prefix : (xs ys : List ℕ) (i : ℕ) → i < length xs → slice_get (xs ++ ys) i ≡ slice_get xs i
+slice_get-prefix xs ys i lt =
     let longer : i < length (xs ++ ys) = omega (arith, length-append xs ys) in
     slice_get-get_or (xs ++ ys) i 0 longer
     ∙ ap (λ (x : ℕ). Some x) (get_or_append_left xs ys 0 i lt)
@@ -39,12 +39,12 @@ pub local_there : (locals : List ℕ) (n : ℕ) → n + 1 < length locals → lo
 local_there locals n lt =
     rw (slice_get-get_or locals n 0 (omega arith), slice_get-get_or locals (n + 1) 0 lt) refl
 
-pub local-front : (locals more : List ℕ) (n : ℕ) → n + 1 < length locals → local_cells (locals ++ more) n ≡ local_cells locals n
-local-front locals more n lt =
-    rw (slice_get-front locals more n (omega arith), slice_get-front locals more (n + 1) lt) refl
+pub local-prefix : (locals more : List ℕ) (n : ℕ) → n + 1 < length locals → local_cells (locals ++ more) n ≡ local_cells locals n
+local-prefix locals more n lt =
+    rw (slice_get-prefix locals more n (omega arith), slice_get-prefix locals more (n + 1) lt) refl
 
-pub with_local-front : (locals more : List ℕ) (n low high : ℕ) → n + 1 < length locals → with_local (locals ++ more) n low high ≡ with_local locals n low high ++ more
-with_local-front locals more n low high lt =
+pub with_local-prefix : (locals more : List ℕ) (n low high : ℕ) → n + 1 < length locals → with_local (locals ++ more) n low high ≡ with_local locals n low high ++ more
+with_local-prefix locals more n low high lt =
     ap (λ (t : List ℕ). slice_set t (n + 1) high) (set-append_left locals more n low (omega arith))
     ∙ set-append_left (slice_set locals n low) more (n + 1) high (omega (arith, length-set locals n low))
 
@@ -73,10 +73,10 @@ top_two (x ∷ y ∷ operands) le = record { high = x; low = y; rest = operands;
 -- without so many of the topmost cells
 pub dropped : (cells locals operands : List ℕ) (count : ℕ) → AreCells cells locals operands → count ≤ length operands → AreCells (take (length cells - count) cells) locals (drop count operands)
 dropped cells locals operands count are le =
-    let front = locals ++ reverse (drop count operands) in
+    let prefix = locals ++ reverse (drop count operands) in
     let tops = reverse (take count operands) in
-    let parts : cells ≡ front ++ tops =
+    let parts : cells ≡ prefix ++ tops =
     are ∙ ap (λ (t : List ℕ). locals ++ reverse t) (sym (take-append-drop count operands)) ∙ under locals (take count operands) (drop count operands) in
     let size : length tops ≡ count = length-reverse (take count operands) ∙ length-take-le count operands le in
-    let shorter : length cells - count ≡ length front = omega (arith, ap length parts, length-append front tops, size) in
-    ap (λ (n : ℕ). take n cells) shorter ∙ ap (take (length front)) parts ∙ take-append_seam front tops
+    let shorter : length cells - count ≡ length prefix = omega (arith, ap length parts, length-append prefix tops, size) in
+    ap (λ (n : ℕ). take n cells) shorter ∙ ap (take (length prefix)) parts ∙ take-append_seam prefix tops

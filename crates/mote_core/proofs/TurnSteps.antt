@@ -21,7 +21,7 @@ use Rattle.mote_model.specs.Machine.{local_cells, with_local, increased, goes_on
 use Rattle.mote_core.specs.declared.turn.Turn.{Turn}
 use Rattle.mote_core.specs.declared.turn.Turn.TheVariants.{Next, Jump, Throw, Return, Write, Read, Print}
 use Rattle.mote_core.specs.Turns.{AreCells, IsTurn, IsResult, HasTop, IsNative, IsWrite, IsRead, IsPrint, with_top}
-use Rattle.mote_core.proofs.Tops.{under, two_behind, pushed, local_there, local-front, with_local-front, IsTopOne, top_one, IsTopTwo, top_two, dropped, height_of}
+use Rattle.mote_core.proofs.Tops.{under, two_after, pushed, local_there, local-prefix, with_local-prefix, IsTopOne, top_one, IsTopTwo, top_two, dropped, height_of}
 
 -- what taking the number on top answers, said for each rest
 abbrev pub Pops : List ℕ → (List ℕ → ℕ → ℕ → Type 0) → Type 0
@@ -45,7 +45,7 @@ module _ (limits : Limits) (frame : Frame) (next : ℕ) (old new : List ℕ) whe
       → IsTurn limits frame next (λ state. step_load state frame [] next (local_cells frame.cells.locals n)) new Next
   turn-load n are lt loaded =
       let same : local_cells old n ≡ local_cells frame.cells.locals n =
-      ap (λ (t : List ℕ). local_cells t n) are ∙ local-front frame.cells.locals (reverse frame.cells.operands) n lt in
+      ap (λ (t : List ℕ). local_cells t n) are ∙ local-prefix frame.cells.locals (reverse frame.cells.operands) n lt in
       found (local_cells frame.cells.locals n) (subst (λ (o : Option (ℕ × ℕ)). IsSomeAnd o (λ pair. new ≡ old ++ pair.1 ∷ pair.0 ∷ [])) same loaded)
     where
       found : (o : Option (ℕ × ℕ)) → IsSomeAnd o (λ pair. new ≡ old ++ pair.1 ∷ pair.0 ∷ []) → IsTurn limits frame next (λ state. step_load state frame [] next o) new Next
@@ -68,7 +68,7 @@ module _ (limits : Limits) (frame : Frame) (next : ℕ) (old new : List ℕ) whe
             locals = with_local frame.cells.locals n low high;
             operands = operands;
             are = stored (frame.cells.locals ++ reverse operands) low high (are ∙ under frame.cells.locals (high ∷ low ∷ []) operands)
-                ∙ with_local-front frame.cells.locals (reverse operands) n low high lt;
+                ∙ with_local-prefix frame.cells.locals (reverse operands) n low high lt;
             same = λ state. refl;
           }
 
@@ -77,7 +77,7 @@ module _ (limits : Limits) (frame : Frame) (next : ℕ) (old new : List ℕ) whe
       → IsTurn limits frame next (λ state. step_inc state frame [] next n amount (local_cells frame.cells.locals n)) new Next
   turn-inc n amount are lt increases =
       let same : local_cells old n ≡ local_cells frame.cells.locals n =
-      ap (λ (t : List ℕ). local_cells t n) are ∙ local-front frame.cells.locals (reverse frame.cells.operands) n lt in
+      ap (λ (t : List ℕ). local_cells t n) are ∙ local-prefix frame.cells.locals (reverse frame.cells.operands) n lt in
       found (local_cells frame.cells.locals n) (subst (λ (o : Option (ℕ × ℕ)). IsSomeAnd o (λ pair. new ≡ increased old n (int_wrap w32 (joined_cells pair.1 pair.0 +ℤ amount)))) same increases)
     where
       found : (o : Option (ℕ × ℕ)) → IsSomeAnd o (λ pair. new ≡ increased old n (int_wrap w32 (joined_cells pair.1 pair.0 +ℤ amount)))
@@ -88,7 +88,7 @@ module _ (limits : Limits) (frame : Frame) (next : ℕ) (old new : List ℕ) whe
           record {
             locals = increased frame.cells.locals n sum;
             operands = frame.cells.operands;
-            are = is ∙ ap (λ (t : List ℕ). increased t n sum) are ∙ with_local-front frame.cells.locals (reverse frame.cells.operands) n (low_cell sum) (high_cell sum) lt;
+            are = is ∙ ap (λ (t : List ℕ). increased t n sum) are ∙ with_local-prefix frame.cells.locals (reverse frame.cells.operands) n (low_cell sum) (high_cell sum) lt;
             same = λ state. refl;
           }
 

@@ -2,7 +2,7 @@
 use Rattle.std.specs.Prelude.{◌≡◌, ℕ, ℤ, ◌+◌, ◌<◌, ◌≤◌, ◌⊎◌, Bool, true, false, List, [], ◌∷◌, Option, option_map, Result, Ok, Err}
 use Rattle.dialogue.specs.Dialogue.{Item}
 use Rattle.dialogue.specs.Limits.{Limits}
-use Rattle.dialogue.specs.Natives.{next_byte, behind_byte}
+use Rattle.dialogue.specs.Natives.{next_byte, after_byte}
 use Rattle.dialogue.specs.Run.{Step, Goes, Ends, Stuck}
 use Rattle.host_face.specs.Talk.{Talked, BrokeOff}
 use Rattle.mote_model.specs.declared.ending.Ending.{Ending}
@@ -53,7 +53,7 @@ pub record IsRead (before after : Option (List ℕ)) (number : ℤ) : Type 0 whe
   pub input : List ℕ
   pub tells : Tells before input
   pub value : number ≡ next_byte input
-  pub now : TellsNow before after (behind_byte input)
+  pub now : TellsNow before after (after_byte input)
 
 -- the same state with another input
 abbrev pub with_input : State → List ℕ → State

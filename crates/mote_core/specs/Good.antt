@@ -29,7 +29,7 @@ pub record IsGood (image : Image) (state : State) : Type 0 where
   pub locals : AllByRecursion IsCell frame.cells.locals
   pub operands : AllByRecursion IsCell frame.cells.operands
 
--- what a state has left: its ticks, and the bytes of the code behind its pc
+-- what a state has left: its ticks, and the bytes of the code after its pc
 abbrev pub left_of : Limits → List ℕ → State → Frame → ℕ
 left_of limits code state frame = (limits.ticks - state.ticks) * (length code + 1) + (length code - frame.pc)
 

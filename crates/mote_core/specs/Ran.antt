@@ -31,7 +31,7 @@ pub record Ended {C : Type 0} (left shown noted : C → Option (List ℕ)) (faul
   pub talked : Talked shown noted faults room old new outcome.dialogue
   pub same_left : IfSome (left old) (λ _. left new ≡ Some outcome.left)
 
--- the console failed: a proper front of the dialogue of the run was said
+-- the console failed: a proper prefix of the dialogue of the run was said
 pub record Failed {C : Type 0} (left shown noted : C → Option (List ℕ)) (faults : C → ℕ) (room : C → Option ℕ) (ready : Ready) (ticks : ℕ) (old new : C) : Type 0 where
   pub outcome : Outcome Ending
   pub may : MayEnd ready ticks (left old) outcome

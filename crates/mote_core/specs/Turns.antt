@@ -5,13 +5,13 @@ use Rattle.std.specs.Fmt.{signed_decimal}
 use Rattle.cell_num.specs.Cells.{low_cell, high_cell}
 use Rattle.dialogue.specs.Dialogue.{Get, putting}
 use Rattle.dialogue.specs.Limits.{Limits}
-use Rattle.dialogue.specs.Natives.{low_byte, next_byte, behind_byte}
+use Rattle.dialogue.specs.Natives.{low_byte, next_byte, after_byte}
 use Rattle.dialogue.specs.Run.{Step, Goes, Ends}
 use Rattle.image_instr.specs.declared.insn.Kind.TheVariants as kind
 use Rattle.image_instr.specs.declared.insn.Width.TheVariants as width
 use Rattle.image_instr.specs.declared.insn.MInsn.{MInsn}
 use Rattle.image_instr.specs.declared.insn.MInsn.TheVariants as insns
-use Rattle.image_instr.specs.Insn.{StandsAt}
+use Rattle.image_instr.specs.Insn.{HoldsAt}
 use Rattle.image_instr.specs.Reading.{insn_at, rows_at}
 use Rattle.mote_model.specs.declared.ending.Ending.{Ending}
 use Rattle.mote_model.specs.declared.ending.Ending.TheVariants.{Done, Uncaught}
@@ -29,11 +29,11 @@ AreCells cells locals operands = cells ≡ locals ++ reverse operands
 abbrev pub with_top : List ℕ → ℤ → List ℕ
 with_top cells number = cells ++ low_cell number ∷ high_cell number ∷ []
 
--- the instruction stands at the pc
+-- the instruction is at the pc
 pub record IsFound (code : List ℕ) (pc : ℕ) (insn : MInsn) : Type 0 where
   pub size : ℕ
   pub found : insn_at (drop pc code) ≡ Some (insn, size)
-  pub stands : StandsAt code pc insn (rows_at insn (drop pc code)) size
+  pub stands : HoldsAt code pc insn (rows_at insn (drop pc code)) size
 
 -- ---- what an instruction needs
 
@@ -107,7 +107,7 @@ meaning limits state frame next Read locals operands =
     (Goes (Get ∷ [])
     (record (ticked state) {
       frames = at_cells frame next locals (with_number (next_byte state.input) operands) ∷ [];
-      input = behind_byte state.input;
+      input = after_byte state.input;
     }))
 
 -- the turn and the cells that an instruction has left are its step, in whatever state

@@ -63,7 +63,7 @@ impl Active {
         true
     }
 
-    /// Goes to a pc. One that is not behind the pc takes a tick.
+    /// Goes to a pc. One that is not after the pc takes a tick.
     fn jump(&mut self, target: u16) -> Result<(), Ending>
         ensures jumped { IsJump self.old.pc target self.old.left self.new.pc self.new.left result }
         ensures cells { self.new.cells ≡ self.old.cells }

@@ -1,5 +1,5 @@
 //! The cells of a frame: its locals, and its operands with the top last. A number of two cells has its
-//! high cell on top, and in the locals behind the low one.
+//! high cell on top, and in the locals after the low one.
 
 ghost use Rattle.std.specs.Prelude.{◌≡◌, ℕ, ◌+ℤ◌, length, ◌+◌, ◌-◌, ◌<◌, ◌≤◌, List, [], ◌∷◌, ◌++◌, Some, IsSomeAnd, vec_len, vec_capacity, replicate, take};
 ghost use Rattle.std.specs.Int.{w32, int_wrap};

@@ -16,7 +16,7 @@ use mote_model::Ending;
 use std::alloc::Global;
 use std::marker::Model;
 
-/// The cells of a frame's body come behind four cells of its own.
+/// The cells of a frame's body come after four cells of its own.
 const FRAME_HEADER: u32 = 4;
 
 /// The ids of an image's own methods count from this one.

@@ -1,4 +1,4 @@
-//! What one instruction does to the cells of a frame, and the turn that control takes behind it.
+//! What one instruction does to the cells of a frame, and the turn that control takes after it.
 
 ghost use Rattle.std.specs.Prelude.{◌≡◌, ℕ, pos, neg_ℤ, ◌+◌, ◌≤◌, ◌++◌, ◌∷◌, [], List, drop, if◌then◌else◌, vec_len, vec_capacity};
 ghost use Rattle.std.specs.Int.{w32, int_wrap};
@@ -11,7 +11,7 @@ ghost use Rattle.dialogue.specs.Limits.{Limits};
 ghost use Rattle.image_instr.specs.declared.insn.SwitchRow.{SwitchRow};
 ghost use Rattle.image_instr.specs.declared.insn.MInsn.{MInsn};
 ghost use Rattle.image_instr.specs.declared.insn.MInsn.TheVariants.{CallS};
-ghost use Rattle.image_instr.specs.Insn.{StandsAt};
+ghost use Rattle.image_instr.specs.Insn.{HoldsAt};
 ghost use Rattle.image_instr.specs.Reading.{rows_at};
 ghost use Rattle.image_instr.specs.Switch.{IsSwitchAt, default_of, target_in};
 ghost use Rattle.mote_model.specs.Numbers.{op_of, cond_of};
@@ -24,10 +24,10 @@ use crate::cells::{drop_top, increase, load, pop, pop_number, push, push_number,
 use cell_num::{BinOp, Cond, Conv, apply, convert, holds, sext, split};
 use image_instr::{Condition, Kind, MInsn, Operation, Width, switch_target};
 
-/// What control does behind an instruction whose effect on the cells is done.
+/// What control does after an instruction whose effect on the cells is done.
 #[derive(Clone, Copy, Debug, PartialEq, Eq)]
 pub enum Turn {
-    /// Goes on behind the instruction.
+    /// Goes on after the instruction.
     Next,
     /// Goes to a pc.
     Jump { target: u16 },
@@ -193,7 +193,7 @@ fn look_up(code: &[u8], pc: usize, cells: &mut Vec<u16>) -> u16
     requires switch { IsSwitchAt code.now pc }
     requires top { 2 ≤ vec_len cells.old }
     ensures target { (rest : List ℕ) (low high : ℕ) (insn : MInsn) (rows : List SwitchRow) (size : ℕ)
-        → cells.old.items ≡ rest ++ low ∷ high ∷ [] → StandsAt code.now pc insn rows size
+        → cells.old.items ≡ rest ++ low ∷ high ∷ [] → HoldsAt code.now pc insn rows size
         → (cells.new.items ≡ rest) × (result ≡ target_in (default_of insn) rows (joined_cells low high)) }
     ensures room { vec_capacity cells.old ≤ vec_capacity cells.new }
 {

@@ -19,7 +19,7 @@ fn main(rt: HostRuntime) -> ExitCode {
     }
 }
 
-/// The words of the command line behind the program's name. Words that are no text are no command.
+/// The words of the command line after the program's name. Words that are no text are no command.
 fn words(rt: &HostRuntime) -> Result<Vec<String>, Status> {
     match given(rt) {
         Ok(words) => Ok(words),

@@ -11,7 +11,7 @@ use Rattle.cell_num.specs.Arithmetic.{applied}
 use Rattle.cell_num.specs.Conditions.{is_met}
 use Rattle.dialogue.specs.Dialogue.{Get, putting}
 use Rattle.dialogue.specs.Limits.{Limits}
-use Rattle.dialogue.specs.Natives.{low_byte, next_byte, behind_byte}
+use Rattle.dialogue.specs.Natives.{low_byte, next_byte, after_byte}
 use Rattle.dialogue.specs.Outcome.{Outcome}
 use Rattle.dialogue.specs.Run as run
 use Rattle.dialogue.specs.Run.{Step, Goes, Ends, Stuck, Progress, Running, Over, EndsSo}
@@ -168,7 +168,7 @@ step_read limits state frame others next =
     (Goes (Get ∷ [])
     (record (ticked state) {
       frames = at_cells frame next frame.cells.locals (with_number (next_byte state.input) frame.cells.operands) ∷ others;
-      input = behind_byte state.input;
+      input = after_byte state.input;
     }))
 
 -- the natives of the library: 1 write, 2 read, 3 print
@@ -186,7 +186,7 @@ step_return (caller ∷ others) = Stuck
 
 -- ---- the step
 
--- the instruction with these rows, behind which the code goes on at next
+-- the instruction with these rows, after which the code goes on at next
 abbrev pub step_insn : Limits → State → Frame → List Frame → ℕ → MInsn → List SwitchRow → Step State Ending
 step_insn limits state frame others next (insns.Const2 value) rows = goes_on state frame others next (with_number value frame.cells.operands)
 step_insn limits state frame others next (insns.Small2 value) rows = goes_on state frame others next (with_number value frame.cells.operands)
@@ -209,7 +209,7 @@ step_insn limits state frame others next (insns.Ret None) rows = step_return oth
 step_insn limits state frame others next (insns.CallS method) rows = step_call limits state frame others next method
 step_insn limits state frame others next _ rows = Stuck
 
--- the instruction at the front of the code from the frame's pc on
+-- the instruction at the prefix of the code from the frame's pc on
 abbrev pub step_found : Limits → State → Frame → List Frame → List ℕ → Option (MInsn × ℕ) → Step State Ending
 step_found limits state frame others bytes None = Stuck
 step_found limits state frame others bytes (Some (insn, size)) = step_insn limits state frame others (frame.pc + size) insn (rows_at insn bytes)

@@ -1,9 +1,9 @@
--- Answers: what is said of one holds of a wider choice, and a note behind it completes it.
+-- Answers: what is said of one holds of a wider choice, and a note after it completes it.
 use Rattle.std.proofs.Common.{◌≡◌, ℕ, true, false, List, [], ◌++◌, Option, refl, sym, ap, subst, ◌∙◌}
 use Rattle.std.proofs.lemmas.List.{append-nil}
 use Rattle.dialogue.specs.Dialogue.{Item, noting}
 use Rattle.host_face.specs.Talk.{Talked, BrokeOff}
-use Rattle.host_face.proofs.TalkLemmas.{Talked-nothing, Talked-then, BrokeOff-front, BrokeOff-then}
+use Rattle.host_face.proofs.TalkLemmas.{Talked-nothing, Talked-then, BrokeOff-prefix, BrokeOff-then}
 use Rattle.mote_top.specs.declared.status.Status.{Status}
 use Rattle.mote_top.specs.declared.status.Status.TheVariants.{Done, Uncaught, Words, Refused, Infusion, Spent, HeapWanted, StackWanted, ConsoleFault, ShelfFault, Misfit, Memory}
 use Rattle.mote_top.specs.Status.{note_of, has_note}
@@ -46,7 +46,7 @@ module _ {C : Type 0} (left shown noted : C → Option (List ℕ)) (faults : C �
   pub Answers-unnoted : (P : Reply → Type 0) (old new : C) (status : Status) → has_note status ≡ false → Answers left shown noted faults room dialogue_of P old new status → Answers left shown noted faults room all_said P old new status
   Answers-unnoted P old new Memory h a = a
   Answers-unnoted P old new ConsoleFault h a =
-      record { reply = a.reply; may = a.may; broke = BrokeOff-front shown noted faults room old new a.reply.dialogue (noting (note_of a.reply.status)) a.broke }
+      record { reply = a.reply; may = a.may; broke = BrokeOff-prefix shown noted faults room old new a.reply.dialogue (noting (note_of a.reply.status)) a.broke }
   Answers-unnoted P old new Done h a =
       record {
         reply = a.reply;
@@ -65,8 +65,8 @@ module _ {C : Type 0} (left shown noted : C → Option (List ℕ)) (faults : C �
   Answers-unnoted P old new (ShelfFault word) h a = absurd cc
   Answers-unnoted P old new (Misfit class place) h a = absurd cc
 
-  noted_behind : (P : Reply → Type 0) (old mid new : C) (status : Status) → Replied left shown noted faults room dialogue_of P old mid status → Talked shown noted faults room mid new (noting (note_of status)) → left new ≡ left mid → Replied left shown noted faults room all_said P old new status
-  noted_behind P old mid new status r note same_left =
+  noted_after : (P : Reply → Type 0) (old mid new : C) (status : Status) → Replied left shown noted faults room dialogue_of P old mid status → Talked shown noted faults room mid new (noting (note_of status)) → left new ≡ left mid → Replied left shown noted faults room all_said P old new status
+  noted_after P old mid new status r note same_left =
       let whole = Talked-then shown noted faults room old mid new r.reply.dialogue (noting (note_of status)) r.talked note in
       record {
         reply = r.reply;
@@ -81,18 +81,18 @@ module _ {C : Type 0} (left shown noted : C → Option (List ℕ)) (faults : C �
   Answers-noted P old mid new Memory h a note same_left = absurd cc
   Answers-noted P old mid new ConsoleFault h a note same_left = absurd cc
   Answers-noted P old mid new Done h a note same_left = absurd cc
-  Answers-noted P old mid new (Uncaught class) h a note same_left = noted_behind P old mid new (Uncaught class) a note same_left
-  Answers-noted P old mid new (Words place) h a note same_left = noted_behind P old mid new (Words place) a note same_left
-  Answers-noted P old mid new (Refused refusal) h a note same_left = noted_behind P old mid new (Refused refusal) a note same_left
-  Answers-noted P old mid new (Infusion refusal) h a note same_left = noted_behind P old mid new (Infusion refusal) a note same_left
-  Answers-noted P old mid new Spent h a note same_left = noted_behind P old mid new Spent a note same_left
-  Answers-noted P old mid new (HeapWanted need live) h a note same_left = noted_behind P old mid new (HeapWanted need live) a note same_left
-  Answers-noted P old mid new (StackWanted need used) h a note same_left = noted_behind P old mid new (StackWanted need used) a note same_left
-  Answers-noted P old mid new (ShelfFault word) h a note same_left = noted_behind P old mid new (ShelfFault word) a note same_left
-  Answers-noted P old mid new (Misfit class place) h a note same_left = noted_behind P old mid new (Misfit class place) a note same_left
+  Answers-noted P old mid new (Uncaught class) h a note same_left = noted_after P old mid new (Uncaught class) a note same_left
+  Answers-noted P old mid new (Words place) h a note same_left = noted_after P old mid new (Words place) a note same_left
+  Answers-noted P old mid new (Refused refusal) h a note same_left = noted_after P old mid new (Refused refusal) a note same_left
+  Answers-noted P old mid new (Infusion refusal) h a note same_left = noted_after P old mid new (Infusion refusal) a note same_left
+  Answers-noted P old mid new Spent h a note same_left = noted_after P old mid new Spent a note same_left
+  Answers-noted P old mid new (HeapWanted need live) h a note same_left = noted_after P old mid new (HeapWanted need live) a note same_left
+  Answers-noted P old mid new (StackWanted need used) h a note same_left = noted_after P old mid new (StackWanted need used) a note same_left
+  Answers-noted P old mid new (ShelfFault word) h a note same_left = noted_after P old mid new (ShelfFault word) a note same_left
+  Answers-noted P old mid new (Misfit class place) h a note same_left = noted_after P old mid new (Misfit class place) a note same_left
 
-  broke_behind : (P : Reply → Type 0) (old mid new : C) (status : Status) → Replied left shown noted faults room dialogue_of P old mid status → BrokeOff shown noted faults room mid new (noting (note_of status)) → Failed shown noted faults room all_said P old new
-  broke_behind P old mid new status r note =
+  broke_after : (P : Reply → Type 0) (old mid new : C) (status : Status) → Replied left shown noted faults room dialogue_of P old mid status → BrokeOff shown noted faults room mid new (noting (note_of status)) → Failed shown noted faults room all_said P old new
+  broke_after P old mid new status r note =
       let whole = BrokeOff-then shown noted faults room old mid new r.reply.dialogue (noting (note_of status)) r.talked note in
       record {
         reply = r.reply;
@@ -105,15 +105,15 @@ module _ {C : Type 0} (left shown noted : C → Option (List ℕ)) (faults : C �
   Answers-broke P old mid new Memory h a note = absurd cc
   Answers-broke P old mid new ConsoleFault h a note = absurd cc
   Answers-broke P old mid new Done h a note = absurd cc
-  Answers-broke P old mid new (Uncaught class) h a note = broke_behind P old mid new (Uncaught class) a note
-  Answers-broke P old mid new (Words place) h a note = broke_behind P old mid new (Words place) a note
-  Answers-broke P old mid new (Refused refusal) h a note = broke_behind P old mid new (Refused refusal) a note
-  Answers-broke P old mid new (Infusion refusal) h a note = broke_behind P old mid new (Infusion refusal) a note
-  Answers-broke P old mid new Spent h a note = broke_behind P old mid new Spent a note
-  Answers-broke P old mid new (HeapWanted need live) h a note = broke_behind P old mid new (HeapWanted need live) a note
-  Answers-broke P old mid new (StackWanted need used) h a note = broke_behind P old mid new (StackWanted need used) a note
-  Answers-broke P old mid new (ShelfFault word) h a note = broke_behind P old mid new (ShelfFault word) a note
-  Answers-broke P old mid new (Misfit class place) h a note = broke_behind P old mid new (Misfit class place) a note
+  Answers-broke P old mid new (Uncaught class) h a note = broke_after P old mid new (Uncaught class) a note
+  Answers-broke P old mid new (Words place) h a note = broke_after P old mid new (Words place) a note
+  Answers-broke P old mid new (Refused refusal) h a note = broke_after P old mid new (Refused refusal) a note
+  Answers-broke P old mid new (Infusion refusal) h a note = broke_after P old mid new (Infusion refusal) a note
+  Answers-broke P old mid new Spent h a note = broke_after P old mid new Spent a note
+  Answers-broke P old mid new (HeapWanted need live) h a note = broke_after P old mid new (HeapWanted need live) a note
+  Answers-broke P old mid new (StackWanted need used) h a note = broke_after P old mid new (StackWanted need used) a note
+  Answers-broke P old mid new (ShelfFault word) h a note = broke_after P old mid new (ShelfFault word) a note
+  Answers-broke P old mid new (Misfit class place) h a note = broke_after P old mid new (Misfit class place) a note
 
   -- a reply without a dialogue, where nothing was said
   pub Replied-quiet : (P : Reply → Type 0) (old : C) (status : Status) → P (quiet status (left old)) → Replied left shown noted faults room dialogue_of P old old status

@@ -7,7 +7,7 @@ use Rattle.std.proofs.lemmas.List.{append-nil}
 use Rattle.class_file.specs.declared.record.ClassFile.{ClassFile}
 use Rattle.class_file.specs.declared.record.CodeAttr.{CodeAttr}
 use Rattle.image_form.specs.declared.record.Image.{Image}
-use Rattle.image_form.specs.Format.{spelling}
+use Rattle.image_form.specs.Format.{encoding}
 use Rattle.jvm_model.specs.declared.refusal.Refusal.{Refusal}
 use Rattle.jvm_model.specs.Body.{Body}
 use Rattle.jvm_model.specs.ImageOf.{image_of}
@@ -26,15 +26,15 @@ use Rattle.mote_top.specs.Words.{IsName, infuse_of, run_of, go_of, class_place, 
 use Rattle.mote_top.specs.Status.{note_of}
 use Rattle.mote_top.specs.Reply.{Reply, quiet, Runs, RunsInfusion, RepliesOn, InfusionReplies, IsNoInfusion, IsRefusedReply, IsRunEnd, IsVerdict, IsRunVerdict, IsInfuseVerdict, GoReplies, RunReplies, InfuseReplies, WordsReply, LoadReplies, StoreReplies, Stores, StoresNothing, Loads, Shelved, MayReply, OnBytes, Replied, Failed, Untouched, Answers, all_said, limits_of}
 use Rattle.mote_top.specs.Headline.{GoesOn, RunsOn, InfusesTo, IsAnswer, IsUnless, ShowsAll, ShowsRun, ShowsImage, StoresImage, ShelfFailed}
-use Rattle.mote_top.proofs.Commands.{one_place, go_command, run_command, infuse_command, go_is_no_run, go_is_no_infuse, run_is_no_infuse, one_infuse, one_go, one_run}
+use Rattle.mote_top.proofs.Commands.{one_slot, go_command, run_command, infuse_command, go_is_no_run, go_is_no_infuse, run_is_no_infuse, one_infuse, one_go, one_run}
 
 -- ---- statuses apart
 
 words_is_shelf : (place word : ℕ) → Words place ≡ ShelfFault word → ⊥
 words_is_shelf place word e = cc
 
-same_place : (a b : ℕ) → Words a ≡ Words b → b ≡ a
-same_place a b e = cc
+same_slot : (a b : ℕ) → Words a ≡ Words b → b ≡ a
+same_slot a b e = cc
 
 same_word : (a b : ℕ) → ShelfFault a ≡ ShelfFault b → b ≡ a
 same_word a b e = cc
@@ -52,7 +52,7 @@ status_is e = ap (λ (r : Reply). r.status) e
 
 -- a reply of words at fault is theirs
 pub may_words : (words : List (List ℕ)) (before after : Shelved) (left : Option (List ℕ)) (reply : Reply) (place : ℕ) → reply.status ≡ Words place → MayReply words before after left reply → FaultsAt words place
-may_words words before after left reply place is (inl (w, same)) = subst (FaultsAt words) (same_place place w.place (sym is ∙ status_is w.is)) w.faults
+may_words words before after left reply place is (inl (w, same)) = subst (FaultsAt words) (same_slot place w.place (sym is ∙ status_is w.is)) w.faults
 may_words words before after left reply place is (inr (inl (inl go, same))) = absurd (subst IsVerdict is go.status)
 may_words words before after left reply place is (inr (inl (inr run, same))) = absurd (subst IsRunVerdict is run.status)
 may_words words before after left reply place is (inr (inr (inl infuse))) = absurd (subst IsInfuseVerdict is infuse.status)
@@ -66,7 +66,7 @@ no_load words place faults name word (inr (inr (out, are, is_out, is_name, there
 
 -- where the words are no command, the reply says at which place
 pub fault_reply : (words : List (List ℕ)) (before after : Shelved) (left : Option (List ℕ)) (place : ℕ) → FaultsAt words place → (reply : Reply) → MayReply words before after left reply → reply.status ≡ Words place
-fault_reply words before after left place faults reply (inl (w, same)) = status_is w.is ∙ ap (λ (p : ℕ). Words p) (one_place words w.place place w.faults faults)
+fault_reply words before after left place faults reply (inl (w, same)) = status_is w.is ∙ ap (λ (p : ℕ). Words p) (one_slot words w.place place w.faults faults)
 fault_reply words before after left place faults reply (inr (inl (inl go, same))) = absurd (faults.no_command (Go (ticks_of go.option) (class_place go.option)) (go_command words go.option go.name go.command go.is_name go.fits))
 fault_reply words before after left place faults reply (inr (inl (inr run, same))) = absurd (faults.no_command (Run 1 (ticks_of run.option)) (run_command words run.name run.option run.command run.is_name run.fits))
 fault_reply words before after left place faults reply (inr (inr (inl infuse))) = absurd (faults.no_command (Infuse 1 2) (infuse_command words infuse.out infuse.class infuse.command infuse.is_out infuse.is_class))
@@ -75,7 +75,7 @@ fault_reply words before after left place faults reply (inr (inr (inr (inr store
 
 -- ---- faults of the shelf
 
--- the name that is loaded stands at its place
+-- the name that is loaded is at its place
 loads_there : (words : List (List ℕ)) (name : List ℕ) (place : ℕ) → Loads words name place → slice_get words place ≡ Some name
 loads_there words name place (inl (None, are, fits, is_name, there)) = rw (are, there) refl
 loads_there words name place (inl (Some ticks, are, fits, is_name, there)) = rw (are, there) refl

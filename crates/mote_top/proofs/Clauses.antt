@@ -7,12 +7,12 @@ use Rattle.std.proofs.lemmas.List.{append-nil}
 use Rattle.class_file.specs.declared.record.ClassFile.{ClassFile}
 use Rattle.class_file.specs.declared.record.CodeAttr.{CodeAttr}
 use Rattle.image_form.specs.declared.record.Image.{Image}
-use Rattle.image_form.specs.Format.{spelling}
-use Rattle.image_form.specs.Grammar.{IsSpelled}
+use Rattle.image_form.specs.Format.{encoding}
+use Rattle.image_form.specs.Grammar.{IsEncoded}
 use Rattle.image_form.specs.declared.refusal.FormRefusal.{FormRefusal}
 use Rattle.image_form.specs.Refused as form
 use Rattle.image_form.specs.Reading.{image_of as read_of}
-use Rattle.image_form.proofs.Whole.{one_image, spelling_reads, refused_reads}
+use Rattle.image_form.proofs.Whole.{one_image, encoding_reads, refused_reads}
 use Rattle.image_form.specs.Refused as form
 use Rattle.image_check.specs.Checked.{IsChecked, IsBuilt}
 use Rattle.image_check.specs.Refused as checking
@@ -62,15 +62,15 @@ split_is_infusion image (split.Misfit class place) refusal e = cc
 ok_or_err : (read : Result Image FormRefusal) (image : Image) (why : FormRefusal) → read ≡ Ok image → read ≡ Err why → ⊥
 ok_or_err read image why found refused = cc
 
--- what is spelled is not refused
-spelled_or_refused : (bytes : List ℕ) (image : Image) (why : FormRefusal) → IsSpelled bytes image → form.IsRefused bytes why → ⊥
-spelled_or_refused bytes image why spelled refused = ok_or_err (read_of bytes) image why (spelling_reads bytes image spelled) (refused_reads bytes why refused)
+-- what is encoded is not refused
+encoded_or_refused : (bytes : List ℕ) (image : Image) (why : FormRefusal) → IsEncoded bytes image → form.IsRefused bytes why → ⊥
+encoded_or_refused bytes image why encoded refused = ok_or_err (read_of bytes) image why (encoding_reads bytes image encoded) (refused_reads bytes why refused)
 
 -- a checked infusion is one
-infusion_is_one : (bytes : List ℕ) (image : Image) → IsSpelled bytes image → IsChecked image → IsBuilt image → (refusal : ImageRefusal) → IsNoInfusion bytes refusal → ⊥
-infusion_is_one bytes image spelled checked built refusal (inl form) = spelled_or_refused bytes image form.why spelled form.refused
-infusion_is_one bytes image spelled checked built refusal (inr check) =
-    let same : check.image ≡ image = one_image bytes check.image image check.spelled spelled in
+infusion_is_one : (bytes : List ℕ) (image : Image) → IsEncoded bytes image → IsChecked image → IsBuilt image → (refusal : ImageRefusal) → IsNoInfusion bytes refusal → ⊥
+infusion_is_one bytes image encoded checked built refusal (inl form) = encoded_or_refused bytes image form.why encoded form.refused
+infusion_is_one bytes image encoded checked built refusal (inr check) =
+    let same : check.image ≡ image = one_image bytes check.image image check.encoded encoded in
     refused_not_checked image check.why (subst (λ (i : Image). checking.IsRefused i check.why) same check.refused) checked built
 
 module _ {C : Type 0} (left shown noted : C → Option (List ℕ)) (faults : C → ℕ) (room : C → Option ℕ)
@@ -208,11 +208,11 @@ module _ {C : Type 0} (left shown noted : C → Option (List ℕ)) (faults : C �
       let same = one_acceptance (bytes ∷ []) stores.infused.file stores.infused.code stores.infused.body file code body stores.infused.accepted accepted in
       record {
         done = r.same ∙ status_is stores.is;
-        stored = stores.stored ∙ ap (λ (b : List ℕ). Some (insert files out b)) (stores.infused.spelled ∙ spelled stores.infused.file stores.infused.code stores.infused.body same.0 same.1 same.2);
+        stored = stores.stored ∙ ap (λ (b : List ℕ). Some (insert files out b)) (stores.infused.encoded ∙ encoded stores.infused.file stores.infused.code stores.infused.body same.0 same.1 same.2);
       }
     where
-      spelled : (a : ClassFile) (b : CodeAttr) (d : Body) → a ≡ file → b ≡ code → d ≡ body → spelling (image_of a b d) ≡ spelling (image_of file code body)
-      spelled a b d p q t = ap (λ (x : ClassFile). spelling (image_of x b d)) p ∙ ap (λ (y : CodeAttr). spelling (image_of file y d)) q ∙ ap (λ (z : Body). spelling (image_of file code z)) t
+      encoded : (a : ClassFile) (b : CodeAttr) (d : Body) → a ≡ file → b ≡ code → d ≡ body → encoding (image_of a b d) ≡ encoding (image_of file code body)
+      encoded a b d p q t = ap (λ (x : ClassFile). encoding (image_of x b d)) p ∙ ap (λ (y : CodeAttr). encoding (image_of file y d)) q ∙ ap (λ (z : Body). encoding (image_of file code z)) t
 
   -- infuse on an accepted class file stores its infusion
   pub infuse_stores : (status : Status) → Call status → (files : Files) (out bytes : List ℕ) (file : ClassFile) (code : CodeAttr) (body : Body) → IsAccepted (bytes ∷ []) file code body → InfusesTo words before.kept files out bytes → IsAnswer status → StoresImage files out after.kept file code body status
@@ -249,19 +249,19 @@ module _ {C : Type 0} (left shown noted : C → Option (List ℕ)) (faults : C �
 
   -- ---- run
 
-  image_shown : (status : Status) (r : CallReplied status) (bytes input : List ℕ) (ticks : ℕ) (image : Image) → IsSpelled bytes image → IsChecked image → IsBuilt image → InfusionReplies bytes (limits_of ticks) input r.reply → ShowsImage left shown noted old new image ticks input status
-  image_shown status r bytes input ticks image spelled checked built (inl runs) =
-      let same : runs.image ≡ image = one_image bytes runs.image image runs.spelled spelled in
+  image_shown : (status : Status) (r : CallReplied status) (bytes input : List ℕ) (ticks : ℕ) (image : Image) → IsEncoded bytes image → IsChecked image → IsBuilt image → InfusionReplies bytes (limits_of ticks) input r.reply → ShowsImage left shown noted old new image ticks input status
+  image_shown status r bytes input ticks image encoded checked built (inl runs) =
+      let same : runs.image ≡ image = one_image bytes runs.image image runs.encoded encoded in
       let shown_so = reply_shows status r (split_status runs.image runs.runs.outcome.ending) runs.runs.outcome.dialogue runs.runs.outcome.left runs.runs.is in
       let here : ShowsImage left shown noted old new runs.image ticks input status = record { outcome = runs.runs.outcome; ends = runs.runs.ends; status_is = shown_so.0; shows = shown_so.1 } in
       subst (λ (i : Image). ShowsImage left shown noted old new i ticks input status) same here
-  image_shown status r bytes input ticks image spelled checked built (inr none) = absurd (infusion_is_one bytes image spelled checked built none.refusal none.none)
+  image_shown status r bytes input ticks image encoded checked built (inr none) = absurd (infusion_is_one bytes image encoded checked built none.refusal none.none)
 
   -- run of a checked infusion
-  pub run_shows : (status : Status) → Call status → (bytes input : List ℕ) (ticks : ℕ) (image : Image) → IsSpelled bytes image → IsChecked image → IsBuilt image → RunsOn words before.kept (left old) ticks bytes input → IsAnswer status → ShowsImage left shown noted old new image ticks input status
-  run_shows status a bytes input ticks image spelled checked built given answer =
+  pub run_shows : (status : Status) → Call status → (bytes input : List ℕ) (ticks : ℕ) (image : Image) → IsEncoded bytes image → IsChecked image → IsBuilt image → RunsOn words before.kept (left old) ticks bytes input → IsAnswer status → ShowsImage left shown noted old new image ticks input status
+  run_shows status a bytes input ticks image encoded checked built given answer =
       let r = replied_of status answer a in
-      image_shown status r bytes input ticks image spelled checked built (run_on words before after (left old) ticks bytes input given r.reply (subst IsAnswer r.same answer) r.may)
+      image_shown status r bytes input ticks image encoded checked built (run_on words before after (left old) ticks bytes input given r.reply (subst IsAnswer r.same answer) r.may)
 
   none_as : (status : Status) (r : CallReplied status) (bytes input : List ℕ) (ticks : ℕ) (refusal : ImageRefusal) → status ≡ Infusion refusal → InfusionReplies bytes (limits_of ticks) input r.reply → IsNoInfusion bytes refusal
   none_as status r bytes input ticks refusal is (inl runs) = absurd (split_is_infusion runs.image runs.runs.outcome.ending refusal (sym (status_is runs.runs.is) ∙ sym r.same ∙ is))

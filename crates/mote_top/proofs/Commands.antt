@@ -10,22 +10,22 @@ use Rattle.mote_top.specs.Words.{IsName, option_words, infuse_of, run_of, go_of,
 
 -- ---- one place
 
-begins_front : (words : List (List ℕ)) (p q : ℕ) → p ≤ q → Begins (take q words) → Begins (take p words)
-begins_front words p q le b =
+begins_prefix : (words : List (List ℕ)) (p q : ℕ) → p ≤ q → Begins (take q words) → Begins (take p words)
+begins_prefix words p q le b =
     let rest = drop p (take q words) in
-    let parts : take q words ≡ take p words ++ rest = sym (take-append-drop p (take q words)) ∙ ap (λ (front : List (List ℕ)). front ++ rest) (take-take p q words le) in
+    let parts : take q words ≡ take p words ++ rest = sym (take-append-drop p (take q words)) ∙ ap (λ (prefix : List (List ℕ)). prefix ++ rest) (take-take p q words le) in
     record {
       more = rest ++ b.more;
       command = b.command;
-      whole = subst (λ (all : List (List ℕ)). IsCommand all b.command) (ap (λ (front : List (List ℕ)). front ++ b.more) parts ∙ append_assoc (take p words) rest b.more) b.whole;
+      whole = subst (λ (all : List (List ℕ)). IsCommand all b.command) (ap (λ (prefix : List (List ℕ)). prefix ++ b.more) parts ∙ append_assoc (take p words) rest b.more) b.whole;
     }
 
 before_is_false : (words : List (List ℕ)) (p q : ℕ) → FaultsAt words p → FaultsAt words q → p < q → ⊥
-before_is_false words p q a b lt = a.stops (omega (arith, b.within)) (begins_front words (p + 1) q (omega arith) b.begins)
+before_is_false words p q a b lt = a.stops (omega (arith, b.within)) (begins_prefix words (p + 1) q (omega arith) b.begins)
 
 -- the words are at fault at one place
-pub one_place : (words : List (List ℕ)) (p q : ℕ) → FaultsAt words p → FaultsAt words q → p ≡ q
-one_place words p q a b =
+pub one_slot : (words : List (List ℕ)) (p q : ℕ) → FaultsAt words p → FaultsAt words q → p ≡ q
+one_slot words p q a b =
     elim (cases_lt p q) [
       | inl lt ↦ absurd (before_is_false words p q a b lt)
       | inr le ↦ elim (cases_lt q p) [ inl gt ↦ absurd (before_is_false words q p b a gt) | inr ge ↦ omega arith ]

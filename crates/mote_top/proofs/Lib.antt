@@ -4,7 +4,7 @@ pub mod Choices
 pub mod Clauses
 pub mod Commands
 pub mod Notes
-pub mod Places
+pub mod Positions
 pub mod RunAnswers
 pub mod Runs
 pub mod Stores

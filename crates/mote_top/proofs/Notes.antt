@@ -8,7 +8,7 @@ use Rattle.dialogue.specs.Dialogue.{Note, noting}
 use Rattle.mote_top.specs.Status.{blank_number, line}
 use Rattle.host_face.specs.declared.console.ConsoleFailed.{ConsoleFailed}
 use Rattle.host_face.specs.Talk.{Talked, BrokeOff, Says}
-use Rattle.host_face.proofs.TalkLemmas.{Talked-then, BrokeOff-front, BrokeOff-then, Says-then}
+use Rattle.host_face.proofs.TalkLemmas.{Talked-then, BrokeOff-prefix, BrokeOff-then, Says-then}
 
 pub noting-append : (first second : List ℕ) → noting (first ++ second) ≡ noting first ++ noting second
 noting-append first second = map-append Note first second
@@ -23,8 +23,8 @@ noting-parts bytes i lt =
 
 -- notes in parts, where the first part broke off, and where the last call's result is returned
 module _ {C : Type 0} (shown noted : C → Option (List ℕ)) (faults : C → ℕ) (room : C → Option ℕ) where
-  pub Noting-front : (old new : C) (first second : List ℕ) → BrokeOff shown noted faults room old new (noting first) → BrokeOff shown noted faults room old new (noting (first ++ second))
-  Noting-front old new first second b = rw (noting-append first second) (BrokeOff-front shown noted faults room old new (noting first) (noting second) b)
+  pub Noting-prefix : (old new : C) (first second : List ℕ) → BrokeOff shown noted faults room old new (noting first) → BrokeOff shown noted faults room old new (noting (first ++ second))
+  Noting-prefix old new first second b = rw (noting-append first second) (BrokeOff-prefix shown noted faults room old new (noting first) (noting second) b)
 
   pub Noting-broke : (old mid new : C) (first second : List ℕ) → Talked shown noted faults room old mid (noting first) → BrokeOff shown noted faults room mid new (noting second) → BrokeOff shown noted faults room old new (noting (first ++ second))
   Noting-broke old mid new first second a b = rw (noting-append first second) (BrokeOff-then shown noted faults room old mid new (noting first) (noting second) a b)
@@ -51,7 +51,7 @@ line-parts word numbers i lt =
     ap (λ (rest : List ℕ). word ++ (rest ++ 10 ∷ [])) halves
     ∙ ap (λ (rest : List ℕ). word ++ rest) (append_assoc (numbers_of (take (i + 1) numbers)) (numbers_of (drop (i + 1) numbers)) (10 ∷ []))
     ∙ sym (append_assoc word (numbers_of (take (i + 1) numbers)) (numbers_of (drop (i + 1) numbers) ++ 10 ∷ []))
-    ∙ ap (λ (front : List ℕ). front ++ (numbers_of (drop (i + 1) numbers) ++ 10 ∷ [])) (numbers-more word numbers i lt)
+    ∙ ap (λ (prefix : List ℕ). prefix ++ (numbers_of (drop (i + 1) numbers) ++ 10 ∷ [])) (numbers-more word numbers i lt)
 
 pub line-end : (word numbers : List ℕ) → line word numbers ≡ (word ++ numbers_of numbers) ++ 10 ∷ []
 line-end word numbers = sym (append_assoc word (numbers_of numbers) (10 ∷ []))

@@ -9,7 +9,7 @@ use Rattle.class_file.specs.declared.record.CodeAttr.{CodeAttr}
 use Rattle.image_form.specs.declared.record.Image.{Image}
 use Rattle.image_form.specs.declared.refusal.FormRefusal.{FormRefusal}
 use Rattle.image_form.specs.declared.refusal.FormRefusal.TheVariants.{Memory as NoFormMemory}
-use Rattle.image_form.specs.Grammar.{IsSpelled}
+use Rattle.image_form.specs.Grammar.{IsEncoded}
 use Rattle.image_form.specs.Refused as form
 use Rattle.image_check.specs.declared.refusal.CheckCause.{CheckCause}
 use Rattle.image_check.specs.declared.refusal.CheckCause.TheVariants.{Memory as NoCheckMemory, Unbuilt as CheckUnbuilt}
@@ -111,10 +111,10 @@ runs_may files image infused alike limits left reply run =
     (on_input left (RunsImage image limits) (RepliesOn files limits) reply (λ input is. inl (image_runs files image infused alike limits input reply is)) run.0, run_verdict reply.status run.1)
 
 -- a run of the image answers for its infusion
-pub infusion_may : (bytes : List ℕ) (image : Image) → IsSpelled bytes image → IsChecked image → IsBuilt image → (limits : Limits) (left : Option (List ℕ)) (reply : Reply)
+pub infusion_may : (bytes : List ℕ) (image : Image) → IsEncoded bytes image → IsChecked image → IsBuilt image → (limits : Limits) (left : Option (List ℕ)) (reply : Reply)
     → OnInput left (RunsImage image limits) reply × IsRunEnd reply.status → OnInput left (InfusionReplies bytes limits) reply × IsRunVerdict reply.status
-infusion_may bytes image spelled checked built limits left reply run =
-    (on_input left (RunsImage image limits) (InfusionReplies bytes limits) reply (λ input is. inl (record { image = image; spelled = spelled; checked = checked; built = built; runs = is })) run.0, run_infusion_verdict reply.status run.1)
+infusion_may bytes image encoded checked built limits left reply run =
+    (on_input left (RunsImage image limits) (InfusionReplies bytes limits) reply (λ input is. inl (record { image = image; encoded = encoded; checked = checked; built = built; runs = is })) run.0, run_infusion_verdict reply.status run.1)
 
 -- ---- refusals
 
@@ -186,8 +186,8 @@ no_check_memory image why (inr (inl refused)) is = let here : check.FailsIn imag
 no_check_memory image why (inr (inr unbuilt)) is = unbuilt_is (sym unbuilt.cause ∙ is)
 
 -- an infusion whose check fails answers quietly
-pub check_may : (bytes : List ℕ) (limits : Limits) (image : Image) → IsSpelled bytes image → (why : CheckRefusal) (status : Status) → (why.cause ≡ NoCheckMemory → status ≡ Memory) → ((why.cause ≡ NoCheckMemory → ⊥) → status ≡ Infusion (check_refusal why))
+pub check_may : (bytes : List ℕ) (limits : Limits) (image : Image) → IsEncoded bytes image → (why : CheckRefusal) (status : Status) → (why.cause ≡ NoCheckMemory → status ≡ Memory) → ((why.cause ≡ NoCheckMemory → ⊥) → status ≡ Infusion (check_refusal why))
     → (why.cause ≡ NoCheckMemory) ⊎ check.IsRefused image why → InfusionQuiet bytes limits status
-check_may bytes limits image spelled why status memory other (inl is) = subst (InfusionQuiet bytes limits) (sym (memory is)) tt
-check_may bytes limits image spelled why status memory other (inr refused) =
-    subst (InfusionQuiet bytes limits) (sym (other (no_check_memory image why refused))) (no_infusion bytes limits (check_refusal why) (inr (record { image = image; why = why; spelled = spelled; refused = refused; is = refl })))
+check_may bytes limits image encoded why status memory other (inl is) = subst (InfusionQuiet bytes limits) (sym (memory is)) tt
+check_may bytes limits image encoded why status memory other (inr refused) =
+    subst (InfusionQuiet bytes limits) (sym (other (no_check_memory image why refused))) (no_infusion bytes limits (check_refusal why) (inr (record { image = image; why = why; encoded = encoded; refused = refused; is = refl })))

@@ -7,7 +7,7 @@ use Rattle.mote_top.specs.Words.{IsName, option_words, infuse_of, run_of, go_of,
 
 -- no command begins with these words
 abbrev pub NoneBegins : List (List ℕ) → Type 0
-NoneBegins front = (more : List (List ℕ)) (command : Command) → IsCommand (front ++ more) command → ⊥
+NoneBegins prefix = (more : List (List ℕ)) (command : Command) → IsCommand (prefix ++ more) command → ⊥
 
 -- ---- how words begin
 
@@ -20,29 +20,29 @@ any_is_name = λ (e : 0 ≡ 45). cc
 
 -- ---- a fault at a word, and one at the end
 
-take-front : (front : List (List ℕ)) (others : List (List ℕ)) → take (length front) (front ++ others) ≡ front
-take-front [] others = refl
-take-front (word ∷ front) others = ap (λ (rest : List (List ℕ)). word ∷ rest) (take-front front others)
+take-prefix : (prefix : List (List ℕ)) (others : List (List ℕ)) → take (length prefix) (prefix ++ others) ≡ prefix
+take-prefix [] others = refl
+take-prefix (word ∷ prefix) others = ap (λ (rest : List (List ℕ)). word ∷ rest) (take-prefix prefix others)
 
-take-front_suc : (front : List (List ℕ)) (word : List ℕ) (others : List (List ℕ)) → take (suc (length front)) (front ++ word ∷ others) ≡ front ++ word ∷ []
-take-front_suc [] word others = refl
-take-front_suc (first ∷ front) word others = ap (λ (rest : List (List ℕ)). first ∷ rest) (take-front_suc front word others)
+take-prefix_suc : (prefix : List (List ℕ)) (word : List ℕ) (others : List (List ℕ)) → take (suc (length prefix)) (prefix ++ word ∷ others) ≡ prefix ++ word ∷ []
+take-prefix_suc [] word others = refl
+take-prefix_suc (first ∷ prefix) word others = ap (λ (rest : List (List ℕ)). first ∷ rest) (take-prefix_suc prefix word others)
 
-take-front_one : (front : List (List ℕ)) (word : List ℕ) (others : List (List ℕ)) → take (length front + 1) (front ++ word ∷ others) ≡ front ++ word ∷ []
-take-front_one front word others = rw add-one (take-front_suc front word others)
+take-prefix_one : (prefix : List (List ℕ)) (word : List ℕ) (others : List (List ℕ)) → take (length prefix + 1) (prefix ++ word ∷ others) ≡ prefix ++ word ∷ []
+take-prefix_one prefix word others = rw add-one (take-prefix_suc prefix word others)
 
-length-front : (front others : List (List ℕ)) → length front ≤ length (front ++ others)
-length-front [] others = omega arith
-length-front (word ∷ front) others = let rest = length-front front others in omega (arith, rest)
+length-prefix : (prefix others : List (List ℕ)) → length prefix ≤ length (prefix ++ others)
+length-prefix [] others = omega arith
+length-prefix (word ∷ prefix) others = let rest = length-prefix prefix others in omega (arith, rest)
 
 -- the words begin a command, and none goes on with this word
-pub faults_at_word : (front : List (List ℕ)) (word : List ℕ) (others : List (List ℕ)) → Begins front → NoneBegins (front ++ word ∷ []) → FaultsAt (front ++ word ∷ others) (length front)
-faults_at_word front word others begins none =
+pub faults_at_word : (prefix : List (List ℕ)) (word : List ℕ) (others : List (List ℕ)) → Begins prefix → NoneBegins (prefix ++ word ∷ []) → FaultsAt (prefix ++ word ∷ others) (length prefix)
+faults_at_word prefix word others begins none =
     record {
-      within = length-front front (word ∷ others);
-      begins = subst Begins (sym (take-front front (word ∷ others))) begins;
-      stops = λ less goes_on. let here : Begins (front ++ word ∷ []) = subst Begins (take-front_one front word others) goes_on in none here.more here.command here.whole;
-      no_command = λ command is. none others command (subst (λ (words : List (List ℕ)). IsCommand words command) (sym (append_assoc front (word ∷ []) others)) is);
+      within = length-prefix prefix (word ∷ others);
+      begins = subst Begins (sym (take-prefix prefix (word ∷ others))) begins;
+      stops = λ less goes_on. let here : Begins (prefix ++ word ∷ []) = subst Begins (take-prefix_one prefix word others) goes_on in none here.more here.command here.whole;
+      no_command = λ command is. none others command (subst (λ (words : List (List ℕ)). IsCommand words command) (sym (append_assoc prefix (word ∷ []) others)) is);
     }
 
 -- all words begin a command, and are none
@@ -50,7 +50,7 @@ pub faults_at_end : (words : List (List ℕ)) → Begins words → ((command : C
 faults_at_end words begins none =
     record {
       within = omega arith;
-      begins = subst Begins (sym (ap (λ (all : List (List ℕ)). take (length words) all) (sym (nothing_more words)) ∙ take-front words [])) begins;
+      begins = subst Begins (sym (ap (λ (all : List (List ℕ)). take (length words) all) (sym (nothing_more words)) ∙ take-prefix words [])) begins;
       stops = λ less goes_on. absurd (omega (arith, less));
       no_command = none;
     }

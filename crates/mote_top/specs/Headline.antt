@@ -9,7 +9,7 @@ use Rattle.host_face.specs.Talk.{with_bytes}
 use Rattle.class_file.specs.declared.record.ClassFile.{ClassFile}
 use Rattle.class_file.specs.declared.record.CodeAttr.{CodeAttr}
 use Rattle.image_form.specs.declared.record.Image.{Image}
-use Rattle.image_form.specs.Format.{spelling}
+use Rattle.image_form.specs.Format.{encoding}
 use Rattle.jvm_model.specs.Program.{Program}
 use Rattle.jvm_model.specs.Machine as typed
 use Rattle.jvm_model.specs.Body.{Body}
@@ -78,7 +78,7 @@ IsUnless status ConsoleFault = Unit {0}
 IsUnless status Memory = Unit {0}
 IsUnless status result = result ≡ status
 
--- the status's own note stands behind the notes of a dialogue, and the console shows the dialogue's puts and
+-- the status's own note follows the notes of a dialogue, and the console shows the dialogue's puts and
 -- has this input left
 pub record ShowsAll {C : Type 0} (left shown noted : C → Option (List ℕ)) (old new : C) (dialogue : List Item) (rest : List ℕ) (status : Status) : Type 0 where
   pub puts_shown : shown new ≡ with_bytes (puts dialogue) (shown old)
@@ -102,7 +102,7 @@ pub record ShowsImage {C : Type 0} (left shown noted : C → Option (List ℕ)) 
 -- the infusion of the class file is kept at the name now, and all other names keep what they had
 pub record StoresImage (files : Files) (out : List ℕ) (now : Option Files) (file : ClassFile) (code : CodeAttr) (body : Body) (status : Status) : Type 0 where
   pub done : status ≡ Done
-  pub stored : now ≡ Some (insert files out (spelling (image_of file code body)))
+  pub stored : now ≡ Some (insert files out (encoding (image_of file code body)))
 
 -- ---- faults
 

@@ -12,8 +12,8 @@ use Rattle.class_file.specs.declared.record.ClassFile.{ClassFile}
 use Rattle.class_file.specs.declared.record.CodeAttr.{CodeAttr}
 use Rattle.image_form.specs.declared.record.Image.{Image}
 use Rattle.image_form.specs.declared.refusal.FormRefusal.{FormRefusal}
-use Rattle.image_form.specs.Format.{spelling}
-use Rattle.image_form.specs.Grammar.{IsSpelled}
+use Rattle.image_form.specs.Format.{encoding}
+use Rattle.image_form.specs.Grammar.{IsEncoded}
 use Rattle.image_form.specs.Refused as form
 use Rattle.image_check.specs.declared.refusal.CheckRefusal.{CheckRefusal}
 use Rattle.image_check.specs.Checked.{IsChecked, IsBuilt}
@@ -118,7 +118,7 @@ pub record RunsImage (image : Image) (limits : Limits) (input : List ℕ) (reply
 -- the bytes are a checked infusion, whose image runs so
 pub record RunsInfusion (bytes : List ℕ) (limits : Limits) (input : List ℕ) (reply : Reply) : Type 0 where
   pub image : Image
-  pub spelled : IsSpelled bytes image
+  pub encoded : IsEncoded bytes image
   pub checked : IsChecked image
   pub built : IsBuilt image
   pub runs : RunsImage image limits input reply
@@ -132,7 +132,7 @@ pub record FailsForm (bytes : List ℕ) (refusal : ImageRefusal) : Type 0 where
 pub record FailsCheck (bytes : List ℕ) (refusal : ImageRefusal) : Type 0 where
   pub image : Image
   pub why : CheckRefusal
-  pub spelled : IsSpelled bytes image
+  pub encoded : IsEncoded bytes image
   pub refused : check.IsRefused image why
   pub is : refusal ≡ check_refusal why
 
@@ -170,7 +170,7 @@ pub record IsInfusedAs (files : List (List ℕ)) (bytes : List ℕ) : Type 0 whe
   pub code : CodeAttr
   pub body : Body
   pub accepted : IsAccepted files file code body
-  pub spelled : bytes ≡ spelling (image_of file code body)
+  pub encoded : bytes ≡ encoding (image_of file code body)
 
 -- the status of a set that is refused, or want of memory
 abbrev pub IsRefusedStatus : List (List ℕ) → Status → Type 0
@@ -280,7 +280,7 @@ pub record Untouched {C : Type 0} (left shown noted : C → Option (List ℕ)) (
   pub counted : faults old ≤ faults new
   pub same_room : room new ≡ room old
 
--- a reply that may be given, of which a proper front was said when the console failed
+-- a reply that may be given, of which a proper prefix was said when the console failed
 pub record Failed {C : Type 0} (shown noted : C → Option (List ℕ)) (faults : C → ℕ) (room : C → Option ℕ) (said : Reply → List Item) (May : Reply → Type 0) (old new : C) : Type 0 where
   pub reply : Reply
   pub may : May reply
@@ -294,7 +294,7 @@ pub record Replied {C : Type 0} (left shown noted : C → Option (List ℕ)) (fa
   pub talked : Talked shown noted faults room old new (said reply)
   pub same_left : left new ≡ reply.left
 
--- The status is that of a reply, and all of the reply was said; or the console failed, and a proper front
+-- The status is that of a reply, and all of the reply was said; or the console failed, and a proper prefix
 -- of what some reply says was said; or there was no memory, and nothing was said. `said` is what counts
 -- of a reply: its dialogue, or its dialogue and its note.
 abbrev pub Answers : {C : Type 0} (left shown noted : C → Option (List ℕ)) (faults : C → ℕ) (room : C → Option ℕ)

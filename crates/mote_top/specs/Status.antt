@@ -33,7 +33,7 @@ code_of Memory = 11
 abbrev pub blank_number : ℕ → List ℕ
 blank_number number = 32 ∷ decimal number
 
--- a word, numbers in decimal with a blank in front of each, and byte 10
+-- a word, numbers in decimal with a blank before each, and byte 10
 abbrev pub line : List ℕ → List ℕ → List ℕ
 line word numbers = word ++ (flat_map blank_number numbers ++ 10 ∷ [])
 

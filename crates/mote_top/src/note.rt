@@ -29,7 +29,7 @@ fn note_number<C: Console>(console: &mut C, number: u32) -> Result<(), ConsoleFa
     note_all(console, buffer.format(number).as_bytes())
 }
 
-/// Notes a line: a word, and numbers with a blank in front of each.
+/// Notes a line: a word, and numbers with a blank before each.
 fn note_line<C: Console>(console: &mut C, word: &[u8], numbers: &[u32]) -> Result<(), ConsoleFailed>
     ensures said { Says C.shown C.noted C.faults C.room console.old console.new (noting (line word.now numbers.now)) result }
     ensures left { C.left console.new ≡ C.left console.old }

@@ -6,7 +6,7 @@ ghost use Rattle.host_face.specs.Console.{FillsRoom};
 ghost use Rattle.host_face.specs.Faults.{Rose};
 ghost use Rattle.host_face.specs.Shelf.{Files};
 ghost use Rattle.image_form.specs.declared.record.Image.{Image};
-ghost use Rattle.image_form.specs.Grammar.{IsSpelled};
+ghost use Rattle.image_form.specs.Grammar.{IsEncoded};
 ghost use Rattle.image_check.specs.Checked.{IsChecked, IsBuilt};
 ghost use Rattle.jvm_model.specs.declared.refusal.Refusal.{Refusal as Reason};
 ghost use Rattle.jvm_model.specs.Body.{Body};
@@ -36,7 +36,7 @@ pub fn mote<S: Shelf, C: Console>(
     console: &mut C,
 ) -> Status
     // The status, what is shown and noted, the input left and what is kept are those of a reply that the
-    // call may give. Where the console failed, a proper front of a reply was said; without memory,
+    // call may give. Where the console failed, a proper prefix of a reply was said; without memory,
     // nothing was.
     ensures replied { Answers C.left C.shown C.noted C.faults C.room all_said
         (MayReply (map string_bytes words.now) (shelved (S.kept shelf.old) (S.load_faults shelf.old) (S.store_faults shelf.old))
@@ -65,7 +65,7 @@ pub fn mote<S: Shelf, C: Console>(
         → S.kept shelf.new ≡ Some files }
 
     // run: a checked infusion runs as on the split machine; other bytes are refused for a rule that fails.
-    ensures runs_infusion { (bytes input : List ℕ) (ticks : ℕ) (image : Image) → IsSpelled bytes image → IsChecked image → IsBuilt image
+    ensures runs_infusion { (bytes input : List ℕ) (ticks : ℕ) (image : Image) → IsEncoded bytes image → IsChecked image → IsBuilt image
         → RunsOn (map string_bytes words.now) (S.kept shelf.old) (C.left console.old) ticks bytes input → IsAnswer result
         → ShowsImage C.left C.shown C.noted console.old console.new image ticks input result }
     ensures no_infusion { (bytes input : List ℕ) (ticks : ℕ) (refusal : ImageReason)

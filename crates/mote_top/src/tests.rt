@@ -73,7 +73,7 @@ fn answers(rt: &impl Abort, alloc: Global, row: &Row) -> Result<(), Fail> {
     for name in ["M", "X", "h"] {
         assert_eq!(rt;
             shelf.file(name),
-            kept_behind(row, name),
+            kept_after(row, name),
             "{}: {name}",
             row.shows
         );
@@ -81,8 +81,8 @@ fn answers(rt: &impl Abort, alloc: Global, row: &Row) -> Result<(), Fail> {
     Ok(())
 }
 
-/// What the shelf must keep at the name behind the row's call.
-fn kept_behind(row: &Row, name: &str) -> Option<&'static [u8]> {
+/// What the shelf must keep at the name after the row's call.
+fn kept_after(row: &Row, name: &str) -> Option<&'static [u8]> {
     if let Some((stored, file)) = row.stored {
         if stored == name {
             return Some(file.bytes());
@@ -157,7 +157,7 @@ fn each_status_has_its_code(rt: HostRuntime) {
 // ---- class files and infusions by hand
 
 /// A class file up to the count of its pool: version 49, which a Java machine runs without a StackMapTable.
-const CLASS_FRONT: &[u8] = b"\xca\xfe\xba\xbe\x00\x00\x00\x31";
+const CLASS_PREFIX: &[u8] = b"\xca\xfe\xba\xbe\x00\x00\x00\x31";
 
 /// How many places the pool has without whole numbers, place 0 counted.
 const PLACES: u16 = 21;
@@ -186,7 +186,7 @@ fn class_file(
 ) -> Result<Vec<u8>, AllocError> {
     let count = numbers.len().min(1_000) as u16;
     let size = code.len().min(65_535) as u32;
-    let mut bytes = Vec::from_slice(alloc, CLASS_FRONT)?;
+    let mut bytes = Vec::from_slice(alloc, CLASS_PREFIX)?;
     bytes.extend_from_slice(&(PLACES + count).to_be_bytes())?;
     bytes.extend_from_slice(POOL)?;
     for number in numbers {
@@ -204,17 +204,17 @@ fn class_file(
 }
 
 /// An infusion of the class M up to the count of main's cell locals.
-const INFUSION_FRONT: &[u8] =
+const INFUSION_PREFIX: &[u8] =
     b"DJIN\x00\x01\x00\x01\x00\x00\x00\x00\x00\x00\x00\x00\x00\x00\x00\x00\x00\x01M\
 \x00\x00\x00\x01\x00\x00\x00\x00\x00\x00";
 
-/// What stands behind main's code: no handlers, no statics, and main's id.
+/// What follows main's code: no handlers, no statics, and main's id.
 const INFUSION_END: &[u8] = b"\x00\x00\x00\x00\x00\x00\x00\x20";
 
 /// The infusion of M, whose main has so many cells of locals, so many of its body, and this code.
 fn infusion(alloc: Global, locals: u16, body: u16, code: &[u8]) -> Result<Vec<u8>, AllocError> {
     let size = code.len().min(65_535) as u16;
-    let mut bytes = Vec::from_slice(alloc, INFUSION_FRONT)?;
+    let mut bytes = Vec::from_slice(alloc, INFUSION_PREFIX)?;
     bytes.extend_from_slice(&locals.to_be_bytes())?;
     bytes.extend_from_slice(&body.to_be_bytes())?;
     bytes.extend_from_slice(&size.to_be_bytes())?;

@@ -77,7 +77,7 @@ fn answer<S: Shelf, C: Console>(
     }
 }
 
-/// Loads the class file of this name, which stands at this place of the words, infuses and runs it.
+/// Loads the class file of this name, which is at this place of the words, infuses and runs it.
 fn go<S: Shelf, C: Console>(
     alloc: Global,
     name: &str,

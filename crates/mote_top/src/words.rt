@@ -104,16 +104,16 @@ fn read_run(rest: &[String]) -> Result<Command, WordFault>
 fn read_go(rest: &[String]) -> Result<Command, WordFault>
     ensures { MatchResult result (IsCommand (codes "go" ∷ map string_bytes rest.now)) (λ fault. FaultsAt (codes "go" ∷ map string_bytes rest.now) fault.place) }
 {
-    let Some((first, behind)) = rest.split_first() else {
+    let Some((first, suffix)) = rest.split_first() else {
         return Err(WordFault { place: 1 });
     };
     if first.as_str() == "--ticks" {
-        return read_go_ticks(behind);
+        return read_go_ticks(suffix);
     }
     if !is_name(first.as_str()) {
         return Err(WordFault { place: 1 });
     }
-    if behind.is_empty() {
+    if suffix.is_empty() {
         Ok(Command::Go {
             ticks: DEFAULT_TICKS,
             class: 1,

@@ -220,7 +220,7 @@ fn code_as_deep_as_max_stack_is_built(rt: HostRuntime) -> Result<(), Fail> {
 }
 
 #[test]
-fn each_front_of_a_class_file_is_refused(rt: HostRuntime) -> Result<(), Fail> {
+fn each_prefix_of_a_class_file_is_refused(rt: HostRuntime) -> Result<(), Fail> {
     let alloc = rt.alloc();
     let hi = File::Hi.bytes();
     assert_eq!(rt; hi.len(), 154);
@@ -246,7 +246,7 @@ fn each_front_of_a_class_file_is_refused(rt: HostRuntime) -> Result<(), Fail> {
 }
 
 #[test]
-fn a_byte_behind_the_class_is_refused(rt: HostRuntime) -> Result<(), Fail> {
+fn a_byte_after_the_class_is_refused(rt: HostRuntime) -> Result<(), Fail> {
     let mut bytes = Vec::from_slice(rt.alloc(), File::Hi.bytes())?;
     bytes.push(0)?;
     let mut shelf = MemShelf::new(rt.alloc())?;

@@ -25,7 +25,7 @@ pub(super) fn run_on(
 }
 
 #[test]
-fn each_front_of_an_infusion_is_refused(rt: HostRuntime) -> Result<(), Fail> {
+fn each_prefix_of_an_infusion_is_refused(rt: HostRuntime) -> Result<(), Fail> {
     let infusion = hi_infusion();
     for length in 0..59 {
         let noted: &[u8] = if length < 4 {

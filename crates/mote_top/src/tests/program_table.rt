@@ -7,7 +7,7 @@ pub(super) struct Program {
     pub(super) code: &'static [u8],
     pub(super) numbers: &'static [i32],
     pub(super) input: &'static [u8],
-    /// Calls, and jumps taken to a target that is not behind them.
+    /// Calls, and jumps taken to a target that is not after them.
     pub(super) ticks: u64,
     pub(super) uncaught: bool,
     pub(super) shown: &'static [u8],

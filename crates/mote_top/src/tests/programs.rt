@@ -34,7 +34,7 @@ fn ends_so(
     ends(rt, alloc, program.shows, shelf, words, program.input, end)
 }
 
-/// The program is spent on these words, behind a front of what it shows.
+/// The program is spent on these words, after a prefix of what it shows.
 fn is_spent(
     rt: &impl Abort,
     alloc: Global,

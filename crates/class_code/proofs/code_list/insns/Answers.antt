@@ -8,19 +8,19 @@ use Rattle.class_code.proofs.code_list.insns.Goals as goal
 
 pub overflow_sub-pc : goal.overflow_sub-pc
 overflow_sub-pc c =
-    let less : length c.in-Ok.behind.now < length c.loop-rest.rest.now = insn_at-shorter c.loop-rest.pc c.loop-rest.rest.now c.in-Ok.insn c.in-Ok.behind.now c.in-Ok.ensures in
+    let less : length c.in-Ok.suffix.now < length c.loop-rest.rest.now = insn_at-shorter c.loop-rest.pc c.loop-rest.rest.now c.in-Ok.insn c.in-Ok.suffix.now c.in-Ok.ensures in
     omega arith
 
 pub loop-rest-smaller : goal.loop-rest-smaller
-loop-rest-smaller c = insn_at-shorter c.loop-rest.pc c.loop-rest.rest.now c.in-Ok.insn c.in-Ok.behind.now c.in-Ok.ensures
+loop-rest-smaller c = insn_at-shorter c.loop-rest.pc c.loop-rest.rest.now c.in-Ok.insn c.in-Ok.suffix.now c.in-Ok.ensures
 
 pub loop-rest-preserved : goal.loop-rest-preserved
 loop-rest-preserved c =
-    let less : length c.in-Ok.behind.now < length c.loop-rest.rest.now = insn_at-shorter c.loop-rest.pc c.loop-rest.rest.now c.in-Ok.insn c.in-Ok.behind.now c.in-Ok.ensures in
+    let less : length c.in-Ok.suffix.now < length c.loop-rest.rest.now = insn_at-shorter c.loop-rest.pc c.loop-rest.rest.now c.in-Ok.insn c.in-Ok.suffix.now c.in-Ok.ensures in
     let items : c.push.new.self.items ≡ c.loop-rest.insns.items ++ (c.loop-rest.pc, c.in-Ok.insn) ∷ [] = c.in_ok-push-in-Ok.ensures.items in
     record {
-      place = omega (arith, c.loop-rest.invariant.place);
-      told = rw items (goes_on c.loop-rest.insns.items c.loop-rest.pc c.loop-rest.rest.now c.in-Ok.insn c.in-Ok.behind.now (insns_of 0 c.args.code.now) (omega arith) c.in-Ok.ensures c.loop-rest.invariant.told);
+      destination = omega (arith, c.loop-rest.invariant.destination);
+      told = rw items (goes_on c.loop-rest.insns.items c.loop-rest.pc c.loop-rest.rest.now c.in-Ok.insn c.in-Ok.suffix.now (insns_of 0 c.args.code.now) (omega arith) c.in-Ok.ensures c.loop-rest.invariant.told);
     }
 
 pub returns-in-Err : goal.returns-in-Err

@@ -2,14 +2,14 @@ use Rattle.std.proofs.Common.{◌≡◌, ◌-◌, ◌+ℤ◌, ℤ, pos, FitsSign
 use Rattle.std.proofs.lemmas.Int.{to_z-of_z}
 use Rattle.std.proofs.lemmas.Result.{err_from_is_err_and}
 use Rattle.class_code.specs.Table.{table_rows}
-use Rattle.class_code.proofs.Rows.{with_front, table-goes_on, table-ends, table-done}
+use Rattle.class_code.proofs.Rows.{with_prefix, table-goes_on, table-ends, table-done}
 use Rattle.class_code.proofs.switch.table_rows.Goals as goal
 
 pub returns-in_err-target : goal.returns-in_err-target
 returns-in_err-target c =
     let p = err_from_is_err_and c.from_residual.result c.from_residual.ensures.1 in
     let low_is : to_z w32 (of_z w32 c.args.low) ≡ c.args.low = to_z-of_z w32 c.args.low c.ranges.low in
-    let so_far = subst (λ (low : ℤ). with_front c.loop-index.rows.items (table_rows c.args.pc low c.loop-index.index (c.args.count - c.loop-index.index) c.loop-index.rest.now) ≡ table_rows c.args.pc low 0 c.args.count c.args.bytes.now) low_is c.loop-index.invariant in
+    let so_far = subst (λ (low : ℤ). with_prefix c.loop-index.rows.items (table_rows c.args.pc low c.loop-index.index (c.args.count - c.loop-index.index) c.loop-index.rest.now) ≡ table_rows c.args.pc low 0 c.args.count c.args.bytes.now) low_is c.loop-index.invariant in
     rw (p.1, p.2) (table-ends c.args.pc c.args.low c.in_err-target.field-0.0 c.loop-index.rows.items c.args.count c.loop-index.index c.loop-index.rest.now (table_rows c.args.pc c.args.low 0 c.args.count c.args.bytes.now) c.loop-index-test.true c.in_err-target.ensures so_far)
 
 pub loop-index-preserved : goal.loop-index-preserved
@@ -24,5 +24,5 @@ loop-index-preserved c =
 pub returns : goal.returns
 returns c =
     let low_is : to_z w32 (of_z w32 c.args.low) ≡ c.args.low = to_z-of_z w32 c.args.low c.ranges.low in
-    let so_far = subst (λ (low : ℤ). with_front c.loop-index.rows.items (table_rows c.args.pc low c.loop-index.index (c.args.count - c.loop-index.index) c.loop-index.rest.now) ≡ table_rows c.args.pc low 0 c.args.count c.args.bytes.now) low_is c.loop-index.invariant in
+    let so_far = subst (λ (low : ℤ). with_prefix c.loop-index.rows.items (table_rows c.args.pc low c.loop-index.index (c.args.count - c.loop-index.index) c.loop-index.rest.now) ≡ table_rows c.args.pc low 0 c.args.count c.args.bytes.now) low_is c.loop-index.invariant in
     table-done c.args.pc c.args.low c.loop-index.rows.items c.args.count c.loop-index.index c.loop-index.rest.now (table_rows c.args.pc c.args.low 0 c.args.count c.args.bytes.now) c.loop-index-test.false so_far

@@ -7,8 +7,8 @@ use Rattle.class_pool.proofs.Parameters.{method_read}
 use Rattle.class_pool.proofs.laws.one_value.Goals as goal
 
 pub returns-clause-pool : goal.returns-clause-pool
-returns-clause-pool c = λ first second behind_first behind_second is_first is_second e.
-    same_parts (first, behind_first) (second, behind_second) (sym (pool_again first behind_first is_first) ∙ ap pool_at e ∙ pool_again second behind_second is_second)
+returns-clause-pool c = λ first second after_first after_second is_first is_second e.
+    same_parts (first, after_first) (second, after_second) (sym (pool_again first after_first is_first) ∙ ap pool_at e ∙ pool_again second after_second is_second)
 
 pub returns-clause-field : goal.returns-clause-field
 returns-clause-field c = λ text first second is_first is_second. some_is first second (sym (field_read text first is_first) ∙ field_read text second is_second)

@@ -7,7 +7,7 @@ use Rattle.class_pool.proofs.methods.params_at.Goals as goal
 pub returns-in-Some : goal.returns-in-Some
 returns-in-Some c =
     let text = c.args.text.now in
-    loop_closes c.loop.params.items (length text) c.loop.counter c.loop.rest.now c.in-Some.behind.now (params_at (length text) text) c.loop-test.true (sym c.in-Some.ensures) c.loop.invariant
+    loop_closes c.loop.params.items (length text) c.loop.counter c.loop.rest.now c.in-Some.suffix.now (params_at (length text) text) c.loop-test.true (sym c.in-Some.ensures) c.loop.invariant
 
 pub returns-in_err-kind : goal.returns-in_err-kind
 returns-in_err-kind c =
@@ -20,7 +20,7 @@ loop-preserved c =
     let text = c.args.text.now in
     let kind = c.in_ok-kind.kind in
     let pushed : c.push.new.self.items ≡ c.loop.params.items ++ kind ∷ [] = c.in_ok-push.ensures.items in
-    rw pushed (loop_goes_on c.loop.params.items (length text) c.loop.counter c.loop.rest.now kind c.in_ok-kind.behind.now (params_at (length text) text) c.loop-test.true (sym c.in_default.ensures) c.in_ok-kind.ensures c.loop.invariant)
+    rw pushed (loop_goes_on c.loop.params.items (length text) c.loop.counter c.loop.rest.now kind c.in_ok-kind.suffix.now (params_at (length text) text) c.loop-test.true (sym c.in_default.ensures) c.in_ok-kind.ensures c.loop.invariant)
 
 pub returns : goal.returns
 returns c =

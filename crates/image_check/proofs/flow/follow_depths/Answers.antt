@@ -3,7 +3,7 @@ use Rattle.std.proofs.lemmas.List.{nil_from_length}
 use Rattle.image_check.specs.Flow.{IsFlow, StartsAt}
 use Rattle.image_check.proofs.Ending.{all_right, all_one_depth}
 use Rattle.image_check.proofs.Flowing.{first-flow, popped-flow}
-use Rattle.image_check.proofs.Standing.{first_start}
+use Rattle.image_check.proofs.Holding.{first_start}
 use Rattle.image_check.proofs.flow.follow_depths.Goals as goal
 
 pub loop-pc-init : goal.loop-pc-init

@@ -5,7 +5,7 @@ use Rattle.std.proofs.lemmas.Option.{none-some}
 use Rattle.image_instr.specs.declared.insn.MInsn.{MInsn}
 use Rattle.image_instr.specs.Reading.{Found, insn_at}
 use Rattle.image_check.specs.declared.depth.Depth.{Depth as Stored}
-use Rattle.image_check.specs.Visits.{successors, behind, moved_by}
+use Rattle.image_check.specs.Visits.{successors, suffix, moved_by}
 use Rattle.image_check.specs.Table.{Table, as_depth, Has, stored}
 use Rattle.image_check.specs.Flow.{IsSpreadAll, HasOtherAmong}
 use Rattle.image_check.proofs.Passing.{yes, no}
@@ -92,10 +92,10 @@ returns-then-not-branch-clause-refused c =
     let after = as_depth c.in-Ok.depth in
     let later = c.send_all.new.flow.depths.items in
     let pending = c.send_all.new.flow.work.items in
-    let places = successors shown pc insn size in
+    let targets = successors shown pc insn size in
     let answer = c.in_ok-send_all.ensures.sent in
-    let other = no c.in_ok-send_all.field-0 (IsSpreadAll places after table work later pending) (HasOtherAmong places after table) c.if-not-branch.true answer in
-    let differ : other.other.0 ≢ behind (moved_by c.args.image.now insn) d = λ same. other.other.2 (same ∙ sym visited.after_is) in
+    let other = no c.in_ok-send_all.field-0 (IsSpreadAll targets after table work later pending) (HasOtherAmong targets after table) c.if-not-branch.true answer in
+    let differ : other.other.0 ≢ suffix (moved_by c.args.image.now insn) d = λ same. other.other.2 (same ∙ sym visited.after_is) in
     inr (record {
       d = d;
       sent = c.requires.flow.sent pc d has;
@@ -130,8 +130,8 @@ returns-clause-kept c =
     let after = as_depth c.in-Ok.depth in
     let later = c.send_all.new.flow.depths.items in
     let pending = c.send_all.new.flow.work.items in
-    let places = successors shown pc insn size in
+    let targets = successors shown pc insn size in
     let answer = c.in_ok-send_all.ensures.sent in
-    let all = yes c.in_ok-send_all.field-0 (IsSpreadAll places after table work later pending) (HasOtherAmong places after table) c.if-not-branch.false answer in
+    let all = yes c.in_ok-send_all.field-0 (IsSpreadAll targets after table work later pending) (HasOtherAmong targets after table) c.if-not-branch.false answer in
     visit-flow c.args.image.now c.args.method.now table work pc c.requires.flow d has insn size found after visited later pending
     (subst (λ (l : List ℕ). IsSpreadAll (successors l pc insn size) after table work later pending) c.as_slice-code.ensures all) c.requires.well

@@ -5,15 +5,15 @@ use Rattle.std.proofs.lemmas.List.Elements.{All-more, Contains-get_or}
 use Rattle.image_check.specs.Code.{JumpsToStarts, targets_at}
 use Rattle.image_check.specs.Listing.{is_start}
 use Rattle.image_check.proofs.Passing.{all-kept}
-use Rattle.image_check.proofs.Standing.{stands_at}
+use Rattle.image_check.proofs.Holding.{holds_at}
 use Rattle.image_check.proofs.Starts.{nothing, all-found, all-passes}
 use Rattle.image_check.proofs.jumps.test_targets.Goals as goal
 
-pub jumps_to_starts-requires-clause-stands : goal.jumps_to_starts-requires-clause-stands
-jumps_to_starts-requires-clause-stands c =
+pub jumps_to_starts-requires-clause-holds : goal.jumps_to_starts-requires-clause-holds
+jumps_to_starts-requires-clause-holds c =
     let insns = c.args.insns.now in
     let x = get_or insns c.loop-x.x-index nothing in
-    rw c.as_slice-code.ensures (stands_at c.args.method.now.code insns c.requires.code x (Contains-get_or insns c.loop-x.x-index nothing c.loop-x-test.true))
+    rw c.as_slice-code.ensures (holds_at c.args.method.now.code insns c.requires.code x (Contains-get_or insns c.loop-x.x-index nothing c.loop-x-test.true))
 
 pub returns-then-not-jumps_to_starts-clause-refused : goal.returns-then-not-jumps_to_starts-clause-refused
 returns-then-not-jumps_to_starts-clause-refused c = λ image.

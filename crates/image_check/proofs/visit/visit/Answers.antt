@@ -1,7 +1,7 @@
 use Rattle.std.proofs.Common.{◌≡◌, ◌∙◌, ◌≤◌, ◌+◌, ap, subst, inl, inr, length, arith, sym}
 use Rattle.image_instr.specs.declared.signature.Effect.{Effect}
 use Rattle.image_instr.specs.Effect.{effect_of}
-use Rattle.image_check.specs.Visits.{HasOperands, ReturnsResult, FitsBody, behind, moved_by}
+use Rattle.image_check.specs.Visits.{HasOperands, ReturnsResult, FitsBody, suffix, moved_by}
 use Rattle.image_check.specs.Table.{as_depth}
 use Rattle.image_check.proofs.Passing.{no}
 use Rattle.image_check.proofs.visit.visit.Goals as goal
@@ -30,7 +30,7 @@ pub returns-in_default-clause-refused : goal.returns-in_default-clause-refused
 returns-in_default-clause-refused c =
     let d = as_depth c.args.d in
     let moved : c.effect-moved.result ≡ moved_by c.args.image.now c.args.insn = c.effect-moved.ensures ∙ ap (effect_of c.args.insn) c.called_by.ensures in
-    let exceeds = subst (λ (e : Effect). ¬ FitsBody c.args.method.now (behind e d)) moved c.in_default.ensures in
+    let exceeds = subst (λ (e : Effect). ¬ FitsBody c.args.method.now (suffix e d)) moved c.in_default.ensures in
     record { d = d; sent = c.requires.sent; insn = c.args.insn; size = c.args.size; found = c.requires.found; fails = inr exceeds }
 
 pub returns-then-len-from-clause-refused : goal.returns-then-len-from-clause-refused

@@ -1,15 +1,15 @@
 use Rattle.std.proofs.Common.{arith, drop, ◌∙◌}
 use Rattle.image_instr.proofs.Bytes.{IsBytes-drop}
-use Rattle.image_instr.proofs.Decode.{found_stands, front_found, front_rows, none_stands}
+use Rattle.image_instr.proofs.Decode.{found_holds, prefix_found, prefix_rows, none_holds}
 use Rattle.image_instr.proofs.read.decode_at.Goals as goal
 
 pub returns-clause-found : goal.returns-clause-found
 returns-clause-found c =
-    rw c.found_at.ensures (found_stands (drop c.args.pc c.args.code.now) (IsBytes-drop c.args.pc c.args.code.now (λ i. omega (arith, c.type_inv.code i))))
+    rw c.found_at.ensures (found_holds (drop c.args.pc c.args.code.now) (IsBytes-drop c.args.pc c.args.code.now (λ i. omega (arith, c.type_inv.code i))))
 
 pub returns-clause-only : goal.returns-clause-only
 returns-clause-only c = λ insn rows size at.
-    (c.found_at.ensures ∙ front_found (drop c.args.pc c.args.code.now) insn rows size at, front_rows (drop c.args.pc c.args.code.now) insn rows size at)
+    (c.found_at.ensures ∙ prefix_found (drop c.args.pc c.args.code.now) insn rows size at, prefix_rows (drop c.args.pc c.args.code.now) insn rows size at)
 
 pub returns-clause-none : goal.returns-clause-none
-returns-clause-none c = rw c.found_at.ensures (none_stands (drop c.args.pc c.args.code.now))
+returns-clause-none c = rw c.found_at.ensures (none_holds (drop c.args.pc c.args.code.now))

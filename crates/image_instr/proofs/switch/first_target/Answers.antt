@@ -2,7 +2,7 @@ use Rattle.std.proofs.Common.{◌≡◌, arith, ◌∙◌, ap, w32, to_z, of_z}
 use Rattle.std.proofs.lemmas.Int.{to_z-of_z}
 use Rattle.std.proofs.lemmas.List.{drop-drop}
 use Rattle.image_instr.specs.Switch.{default_of, target_in}
-use Rattle.image_instr.proofs.SwitchFront.{switch_there, switch_at}
+use Rattle.image_instr.proofs.SwitchPrefix.{switch_there, switch_at}
 use Rattle.image_instr.proofs.switch.first_target.Goals as goal
 
 pub bytes_from-operands-requires : goal.bytes_from-operands-requires
@@ -13,32 +13,32 @@ bounds-bytes-0 c = let present = (switch_there c.args.bytes.now (λ i. omega (ar
 
 pub switch_operands_target-requires-clause-there : goal.switch_operands_target-requires-clause-there
 switch_operands_target-requires-clause-there c =
-    let front = (switch_there c.args.bytes.now (λ i. omega (arith, c.type_inv.bytes i)) c.requires).2.low_byte c.if-bytes-le-LAST_SWITCH.true in
-    rw c.bytes_from-operands.ensures front.0.there
+    let prefix = (switch_there c.args.bytes.now (λ i. omega (arith, c.type_inv.bytes i)) c.requires).2.low_byte c.if-bytes-le-LAST_SWITCH.true in
+    rw c.bytes_from-operands.ensures prefix.0.there
 
 pub switch_operands_target-requires-clause-rows : goal.switch_operands_target-requires-clause-rows
 switch_operands_target-requires-clause-rows c =
-    let front = (switch_there c.args.bytes.now (λ i. omega (arith, c.type_inv.bytes i)) c.requires).2.low_byte c.if-bytes-le-LAST_SWITCH.true in
-    rw (c.bytes_from-operands.ensures, drop-drop 2 1 c.args.bytes.now, drop-drop 4 1 c.args.bytes.now) front.0.rows
+    let prefix = (switch_there c.args.bytes.now (λ i. omega (arith, c.type_inv.bytes i)) c.requires).2.low_byte c.if-bytes-le-LAST_SWITCH.true in
+    rw (c.bytes_from-operands.ensures, drop-drop 2 1 c.args.bytes.now, drop-drop 4 1 c.args.bytes.now) prefix.0.rows
 
 pub table_operands_target-requires-clause-there : goal.table_operands_target-requires-clause-there
 table_operands_target-requires-clause-there c =
-    let front = (switch_there c.args.bytes.now (λ i. omega (arith, c.type_inv.bytes i)) c.requires).2.high_byte c.if-bytes-le-LAST_SWITCH.false in
-    rw c.bytes_from-operands.ensures front.0.there
+    let prefix = (switch_there c.args.bytes.now (λ i. omega (arith, c.type_inv.bytes i)) c.requires).2.high_byte c.if-bytes-le-LAST_SWITCH.false in
+    rw c.bytes_from-operands.ensures prefix.0.there
 
 pub table_operands_target-requires-clause-targets : goal.table_operands_target-requires-clause-targets
 table_operands_target-requires-clause-targets c =
-    let front = (switch_there c.args.bytes.now (λ i. omega (arith, c.type_inv.bytes i)) c.requires).2.high_byte c.if-bytes-le-LAST_SWITCH.false in
-    rw (c.bytes_from-operands.ensures, drop-drop 6 1 c.args.bytes.now, drop-drop 8 1 c.args.bytes.now) front.0.targets
+    let prefix = (switch_there c.args.bytes.now (λ i. omega (arith, c.type_inv.bytes i)) c.requires).2.high_byte c.if-bytes-le-LAST_SWITCH.false in
+    rw (c.bytes_from-operands.ensures, drop-drop 6 1 c.args.bytes.now, drop-drop 8 1 c.args.bytes.now) prefix.0.targets
 
 pub returns-then-bytes-le-LAST_SWITCH : goal.returns-then-bytes-le-LAST_SWITCH
 returns-then-bytes-le-LAST_SWITCH c = λ insn rows size at.
-    let front = (switch_at c.args.bytes.now c.requires insn rows size at).low_byte c.if-bytes-le-LAST_SWITCH.true in
+    let prefix = (switch_at c.args.bytes.now c.requires insn rows size at).low_byte c.if-bytes-le-LAST_SWITCH.true in
     let passed : to_z w32 (of_z w32 c.args.key) ≡ c.args.key = to_z-of_z w32 c.args.key c.ranges.key in
-    c.switch_operands_target.ensures ∙ (rw (c.bytes_from-operands.ensures, drop-drop 2 1 c.args.bytes.now, drop-drop 4 1 c.args.bytes.now) (front.1 (to_z w32 (of_z w32 c.args.key)))) ∙ ap (target_in (default_of insn) rows) passed
+    c.switch_operands_target.ensures ∙ (rw (c.bytes_from-operands.ensures, drop-drop 2 1 c.args.bytes.now, drop-drop 4 1 c.args.bytes.now) (prefix.1 (to_z w32 (of_z w32 c.args.key)))) ∙ ap (target_in (default_of insn) rows) passed
 
 pub returns-else-bytes-le-LAST_SWITCH : goal.returns-else-bytes-le-LAST_SWITCH
 returns-else-bytes-le-LAST_SWITCH c = λ insn rows size at.
-    let front = (switch_at c.args.bytes.now c.requires insn rows size at).high_byte c.if-bytes-le-LAST_SWITCH.false in
+    let prefix = (switch_at c.args.bytes.now c.requires insn rows size at).high_byte c.if-bytes-le-LAST_SWITCH.false in
     let passed : to_z w32 (of_z w32 c.args.key) ≡ c.args.key = to_z-of_z w32 c.args.key c.ranges.key in
-    c.table_operands_target.ensures ∙ (rw (c.bytes_from-operands.ensures, drop-drop 2 1 c.args.bytes.now, drop-drop 6 1 c.args.bytes.now, drop-drop 8 1 c.args.bytes.now) (front.1 (to_z w32 (of_z w32 c.args.key)))) ∙ ap (target_in (default_of insn) rows) passed
+    c.table_operands_target.ensures ∙ (rw (c.bytes_from-operands.ensures, drop-drop 2 1 c.args.bytes.now, drop-drop 6 1 c.args.bytes.now, drop-drop 8 1 c.args.bytes.now) (prefix.1 (to_z w32 (of_z w32 c.args.key)))) ∙ ap (target_in (default_of insn) rows) passed

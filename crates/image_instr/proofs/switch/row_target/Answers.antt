@@ -2,7 +2,7 @@ use Rattle.std.proofs.Common.{◌≡◌, sym, ◌∙◌, ap, arith, length-drop,
 use Rattle.std.proofs.lemmas.Int.{to_z-of_z}
 use Rattle.image_instr.specs.Reading.{rows_in}
 use Rattle.image_instr.specs.Switch.{target_in}
-use Rattle.image_instr.proofs.Targets.{rows-here, rows-behind, rows-none}
+use Rattle.image_instr.proofs.Targets.{rows-here, rows-after, rows-none}
 use Rattle.image_instr.proofs.switch.row_target.Goals as goal
 
 -- a number that was passed is what was passed
@@ -14,10 +14,10 @@ returns-then-has_key c =
 
 pub loop-preserved : goal.loop-preserved
 loop-preserved c =
-    let other = rows-behind c.args.default c.args.count c.loop.counter c.loop.rest.now (to_z w32 (of_z w32 c.args.wanted)) c.loop-test.true (sym c.has_key.ensures ∙ c.if-has_key.false) in
+    let other = rows-after c.args.default c.args.count c.loop.counter c.loop.rest.now (to_z w32 (of_z w32 c.args.wanted)) c.loop-test.true (sym c.has_key.ensures ∙ c.if-has_key.false) in
     record {
-      there = rw c.behind-rest.ensures (omega (arith, length-drop 6 c.loop.rest.now));
-      same = rw c.behind-rest.ensures (sym other ∙ c.loop.invariant.same);
+      there = rw c.after-rest.ensures (omega (arith, length-drop 6 c.loop.rest.now));
+      same = rw c.after-rest.ensures (sym other ∙ c.loop.invariant.same);
     }
 
 pub returns : goal.returns

@@ -3,7 +3,7 @@ use Rattle.image_instr.specs.Reading.{rows_in}
 use Rattle.image_instr.specs.Switch.{target_in}
 use Rattle.image_instr.proofs.switch.row_target.Given as goal
 
--- the rows behind are there, and give the target
+-- the rows after are there, and give the target
 abbrev pub invariant-loop : goal.invariant-loop
 invariant-loop l =
     record {

@@ -1,5 +1,5 @@
 use Rattle.std.proofs.Common.{◌≡◌, ℕ, Bool, true, false, ◌+◌, ◌-◌, max, get_or, drop, sym, ap, ◌∙◌, arith}
-use Rattle.jvm_model.specs.NumberForm.{height_behind, pops}
+use Rattle.jvm_model.specs.NumberForm.{height_after, pops}
 use Rattle.infuse_link.specs.NumberInsns.{NumberInsns, meant, body_meant}
 use Rattle.infuse_link.specs.Tests.{fits, heights}
 use Rattle.infuse_link.proofs.Loops.{nothing, stepped, ended}
@@ -26,13 +26,13 @@ loop-x-preserved c =
     let rest = body_meant (drop (i + 1) body) in
     let arrives = λ (n : ℕ). get_or c.args.arrivals.now n false in
     let passes : fits c.args.max_stack (arrives x.0) h (meant x.1) ≡ true = ap (λ (b : Bool). fits c.args.max_stack b h (meant x.1)) (sym c.has.ensures) ∙ sym c.fits.ensures ∙ c.if-not-fits.false in
-    let height_is : (h - c.pops.result + c.pushes.result) ≡ height_behind h (meant x.1) = ap (λ (n : ℕ). h - n + c.pushes.result) c.pops.ensures.value ∙ ap (λ (n : ℕ). h - pops (meant x.1) + n) c.pushes.ensures.value in
+    let height_is : (h - c.pops.result + c.pushes.result) ≡ height_after h (meant x.1) = ap (λ (n : ℕ). h - n + c.pushes.result) c.pops.ensures.value ∙ ap (λ (n : ℕ). h - pops (meant x.1) + n) c.pushes.ensures.value in
     let low = fits_low c.args.max_stack (arrives x.0) h (meant x.1) passes in
-    let greatest_is : c.larger-greatest.result ≡ max g (height_behind h (meant x.1)) = c.larger-greatest.ensures ∙ ap (max g) height_is in
+    let greatest_is : c.larger-greatest.result ≡ max g (height_after h (meant x.1)) = c.larger-greatest.ensures ∙ ap (max g) height_is in
     record {
       told =
           ap (λ (n : ℕ). heights c.args.max_stack arrives n c.larger-greatest.result rest) height_is
-          ∙ ap (λ (n : ℕ). heights c.args.max_stack arrives (height_behind h (meant x.1)) n rest) greatest_is
+          ∙ ap (λ (n : ℕ). heights c.args.max_stack arrives (height_after h (meant x.1)) n rest) greatest_is
           ∙ sym (heights_more c.args.max_stack arrives h g (x.0, meant x.1) rest passes)
           ∙ sym (stepped (λ (list : NumberInsns). heights c.args.max_stack arrives h g (body_meant list)) body i nothing c.loop-x-test.true) ∙ c.loop-x.invariant.told;
       low = omega (arith, low, height_is, c.ranges.max_stack.fits);

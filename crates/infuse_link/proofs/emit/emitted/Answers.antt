@@ -6,13 +6,13 @@ use Rattle.jvm_model.specs.Expansion.{family_bytes, body_bytes}
 use Rattle.infuse_link.specs.NumberInsns.{NumberInsns, meant, body_meant}
 use Rattle.infuse_link.specs.Tests.{slot_in}
 use Rattle.infuse_link.specs.Offsets.{place_in, Fits}
-use Rattle.infuse_link.proofs.Loops.{nothing, front, stepped, ended}
+use Rattle.infuse_link.proofs.Loops.{nothing, prefix, stepped, ended}
 use Rattle.infuse_link.proofs.emit.emitted.Goals as goal
 
 pub emit-requires : goal.emit-requires
 emit-requires c =
     let list = λ (list : NumberInsns). AllByRecursion (λ (x : ℕ × Family). Fits (slot_in c.args.slots.now) (place_in c.args.offsets.now) x.1) (body_meant list) in
-    (subst list (front c.args.body.now c.loop-x.x-index nothing c.loop-x-test.true) c.loop-x.invariant.fit).0
+    (subst list (prefix c.args.body.now c.loop-x.x-index nothing c.loop-x-test.true) c.loop-x.invariant.fit).0
 
 pub loop-x-preserved : goal.loop-x-preserved
 loop-x-preserved c =
@@ -27,7 +27,7 @@ loop-x-preserved c =
       written =
           ap (λ (code : List ℕ). code ++ rest) c.in_ok-emit.ensures ∙ append_assoc c.loop-x.code.items (family_bytes slot place (meant x.1)) rest
           ∙ sym (stepped (λ (list : NumberInsns). c.loop-x.code.items ++ body_bytes slot place (body_meant list)) body i nothing c.loop-x-test.true) ∙ c.loop-x.invariant.written;
-      fit = (subst list (front body i nothing c.loop-x-test.true) c.loop-x.invariant.fit).1;
+      fit = (subst list (prefix body i nothing c.loop-x-test.true) c.loop-x.invariant.fit).1;
     }
 
 pub returns : goal.returns

@@ -1,7 +1,7 @@
 use Rattle.std.proofs.Common.{◌≡◌, ℕ, ◌+◌, ◌-◌, ◌≤◌, ◌++◌, length, get_or, replicate, drop, sym, ap, ◌∙◌}
 use Rattle.infuse_link.specs.Exits.{Exits}
 use Rattle.infuse_link.specs.Reach.{from_pc}
-use Rattle.infuse_link.proofs.Loops.{front, ended}
+use Rattle.infuse_link.proofs.Loops.{prefix, ended}
 use Rattle.infuse_link.proofs.ExitWays.{nowhere}
 use Rattle.infuse_link.proofs.RisingPcs.{firsts_below, firsts_above, from_none}
 use Rattle.infuse_link.proofs.reach.firsts.Goals as goal
@@ -16,7 +16,7 @@ loop-x-preserved c =
     let old = c.loop-x.firsts.items in
     let new = c.fill_indexes.new.indexes.items in
     let filled : new ≡ old ++ replicate (x.0 + 1 - length old) i = c.in_ok-fill_indexes.ensures ∙ ap (λ (n : ℕ). old ++ replicate (x.0 + 1 - length old) n) h.place in
-    let left = front exits i nowhere c.loop-x-test.true in
+    let left = prefix exits i nowhere c.loop-x-test.true in
     let above = λ (pc : ℕ) (le : length old ≤ pc). ap (from_pc pc) (sym left) ∙ h.above pc le in
     record {
       place = ap (λ (n : ℕ). n + 1) h.place;
@@ -30,5 +30,5 @@ returns c =
     let i = c.loop-x.x-index in
     record {
       within = c.loop-x.invariant.below;
-      behind = λ pc le. sym (c.loop-x.invariant.above pc le) ∙ ended (λ (list : Exits). from_pc pc list) exits i c.loop-x-test.false ∙ from_none pc;
+      suffix = λ pc le. sym (c.loop-x.invariant.above pc le) ∙ ended (λ (list : Exits). from_pc pc list) exits i c.loop-x-test.false ∙ from_none pc;
     }

@@ -16,13 +16,13 @@ returns-then-at-pc c =
     let i = c.index_of-index.result in
     let x = get_or exits i nowhere in
     let s = c.args.state.now in
-    let t = c.reach_behind.new.state in
+    let t = c.reach_after.new.state in
     let u = c.reach_targets.new.state in
     let v = c.reach_handlers.new.state in
     let leads = visit_leads rows exits i pc c.index_of-index.ensures c.if-index-exits.true c.if-at-pc.true in
     then_ok c.reach_handlers.result
     (λ three. subst (λ (list : List ℕ). Spread exits list s v) leads
-    (spread_both exits (goes_to (goes_on x.1) (drop (i + 1) exits)) (jumps x.1 ++ handlers_at rows pc) s t v c.in_ok-reach_behind.ensures
+    (spread_both exits (goes_to (goes_on x.1) (drop (i + 1) exits)) (jumps x.1 ++ handlers_at rows pc) s t v c.in_ok-reach_after.ensures
     (spread_both exits (jumps x.1) (handlers_at rows pc) t u v c.in_ok-reach_targets.ensures three)))
     c.reach_handlers.ensures
 

@@ -5,12 +5,12 @@ use Rattle.std.proofs.lemmas.Int.{to_z-of_z}
 use Rattle.cell_num.specs.Arithmetic.{applied}
 use Rattle.mote_core.specs.Turns.{IsResult, with_top}
 use Rattle.mote_core.specs.declared.turn.Turn.TheVariants.{Next, Throw}
-use Rattle.mote_core.proofs.Tops.{two_behind}
+use Rattle.mote_core.proofs.Tops.{two_after}
 use Rattle.mote_core.proofs.turn.binary.Goals as goal
 
 pub returns-in-Some-clause-turn : goal.returns-in-Some-clause-turn
 returns-in-Some-clause-turn c = λ rest left_low left_high low high is.
-    let right = c.pop_number-right.ensures.number (rest ++ left_low ∷ left_high ∷ []) low high (is ∙ two_behind rest left_low left_high low high) in
+    let right = c.pop_number-right.ensures.number (rest ++ left_low ∷ left_high ∷ []) low high (is ∙ two_after rest left_low left_high low high) in
     let left = c.pop_number-left.ensures.number rest left_low left_high right.0 in
     let left_fits : SFits w32 c.pop_number-left.result = search rules in
     let right_fits : SFits w32 c.pop_number-right.result = search rules in
@@ -21,7 +21,7 @@ returns-in-Some-clause-turn c = λ rest left_low left_high low high is.
 
 pub returns-in-None-clause-turn : goal.returns-in-None-clause-turn
 returns-in-None-clause-turn c = λ rest left_low left_high low high is.
-    let right = c.pop_number-right.ensures.number (rest ++ left_low ∷ left_high ∷ []) low high (is ∙ two_behind rest left_low left_high low high) in
+    let right = c.pop_number-right.ensures.number (rest ++ left_low ∷ left_high ∷ []) low high (is ∙ two_after rest left_low left_high low high) in
     let left = c.pop_number-left.ensures.number rest left_low left_high right.0 in
     let left_fits : SFits w32 c.pop_number-left.result = search rules in
     let right_fits : SFits w32 c.pop_number-right.result = search rules in

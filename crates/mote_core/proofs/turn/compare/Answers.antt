@@ -3,12 +3,12 @@ use mir.Syntax.{w32}
 use mir.Val.{SFits}
 use Rattle.std.proofs.lemmas.Int.{to_z-of_z}
 use Rattle.cell_num.specs.Conditions.{is_met}
-use Rattle.mote_core.proofs.Tops.{two_behind}
+use Rattle.mote_core.proofs.Tops.{two_after}
 use Rattle.mote_core.proofs.turn.compare.Goals as goal
 
 pub returns-clause-test : goal.returns-clause-test
 returns-clause-test c = λ rest left_low left_high low high is.
-    let right = c.pop_number-right.ensures.number (rest ++ left_low ∷ left_high ∷ []) low high (is ∙ two_behind rest left_low left_high low high) in
+    let right = c.pop_number-right.ensures.number (rest ++ left_low ∷ left_high ∷ []) low high (is ∙ two_after rest left_low left_high low high) in
     let left = c.pop_number-left.ensures.number rest left_low left_high right.0 in
     let left_fits : SFits w32 c.pop_number-left.result = search rules in
     let right_fits : SFits w32 c.pop_number-right.result = search rules in

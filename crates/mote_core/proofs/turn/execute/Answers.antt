@@ -4,7 +4,7 @@ use mir.Val.{SFits}
 use Rattle.std.specs.Prelude.{vec_capacity}
 use Rattle.std.proofs.lemmas.Int.{to_z-of_z}
 use Rattle.image_instr.specs.declared.insn.MInsn.TheVariants as insns
-use Rattle.image_instr.specs.Insn.{StandsAt}
+use Rattle.image_instr.specs.Insn.{HoldsAt}
 use Rattle.image_instr.specs.Reading.{rows_at}
 use Rattle.mote_core.specs.Turns.{CanRun, with_top}
 use Rattle.mote_core.proofs.TurnSteps.{turn-constant, turn-pop}
@@ -96,7 +96,7 @@ returns-in-Switch-clause-turn c = λ limits frame next are can.
     let able = subst (λ insn. CanRun insn frame (vec_capacity c.args.cells.now)) c.in-Switch.is can in
     let insn = insns.Switch c.in-Switch.width c.in-Switch.default c.in-Switch.count in
     let bytes = drop c.args.pc c.args.code.now in
-    let stands = subst (λ insn. StandsAt c.args.code.now c.args.pc insn (rows_at insn bytes) c.requires.found.size) c.in-Switch.is c.requires.found.stands in
+    let stands = subst (λ insn. HoldsAt c.args.code.now c.args.pc insn (rows_at insn bytes) c.requires.found.size) c.in-Switch.is c.requires.found.stands in
     rw c.in-Switch.is (run-switch limits frame next c.args.cells.now.items c.look_up-target.new.cells.items (vec_capacity c.args.cells.now) (rows_at insn bytes) c.in-Switch.width c.in-Switch.default c.in-Switch.count c.look_up-target.result able are
     (λ rest low high is. c.look_up-target.ensures.target rest low high insn (rows_at insn bytes) c.requires.found.size is stands))
 
@@ -105,7 +105,7 @@ returns-in-Table-clause-turn c = λ limits frame next are can.
     let able = subst (λ insn. CanRun insn frame (vec_capacity c.args.cells.now)) c.in-Table.is can in
     let insn = insns.Table c.in-Table.width c.in-Table.default c.in-Table.low c.in-Table.count in
     let bytes = drop c.args.pc c.args.code.now in
-    let stands = subst (λ insn. StandsAt c.args.code.now c.args.pc insn (rows_at insn bytes) c.requires.found.size) c.in-Table.is c.requires.found.stands in
+    let stands = subst (λ insn. HoldsAt c.args.code.now c.args.pc insn (rows_at insn bytes) c.requires.found.size) c.in-Table.is c.requires.found.stands in
     rw c.in-Table.is (run-table limits frame next c.args.cells.now.items c.look_up-target-in-Table.new.cells.items (vec_capacity c.args.cells.now) (rows_at insn bytes) c.in-Table.width c.in-Table.default c.in-Table.low c.in-Table.count c.look_up-target-in-Table.result able are
     (λ rest low high is. c.look_up-target-in-Table.ensures.target rest low high insn (rows_at insn bytes) c.requires.found.size is stands))
 

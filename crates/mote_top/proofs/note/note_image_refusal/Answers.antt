@@ -4,7 +4,7 @@ use Rattle.std.proofs.lemmas.Result.{err_from_is_err_and}
 use Rattle.dialogue.specs.Dialogue.{noting}
 use Rattle.host_face.specs.Talk.{Says}
 use Rattle.mote_top.specs.Status.{blank_number, line, image_word}
-use Rattle.mote_top.proofs.Notes.{Noting-front, Noting-last}
+use Rattle.mote_top.proofs.Notes.{Noting-prefix, Noting-last}
 use Rattle.mote_top.proofs.note.note_image_refusal.Goals as goal
 
 pub returns-in_err-note_all-clause-said : goal.returns-in_err-note_all-clause-said
@@ -12,7 +12,7 @@ returns-in_err-note_all-clause-said g c =
     let C = g.C.Console in
     let r = c.args.refusal in
     let p = err_from_is_err_and c.from_residual.result c.from_residual.ensures.1 in
-    rw p.1 (Noting-front C.shown C.noted C.faults C.room c.args.console.now c.note_all.new.console (codes "infusion ") (line (image_word r.cause) (r.a ∷ r.b ∷ [])) c.in_err-note_all.ensures.said)
+    rw p.1 (Noting-prefix C.shown C.noted C.faults C.room c.args.console.now c.note_all.new.console (codes "infusion ") (line (image_word r.cause) (r.a ∷ r.b ∷ [])) c.in_err-note_all.ensures.said)
 
 pub returns-clause-said : goal.returns-clause-said
 returns-clause-said g c =

@@ -4,7 +4,7 @@ use Rattle.std.proofs.lemmas.List.{take_all, append-nil}
 use Rattle.dialogue.specs.Dialogue.{noting}
 use Rattle.host_face.specs.Talk.{Talked, BrokeOff, Says}
 use Rattle.mote_top.specs.Status.{blank_number}
-use Rattle.mote_top.proofs.Notes.{Noting-front, Noting-broke, Noting-then, Noting-last, numbers_of, numbers-more, line-parts, line-end}
+use Rattle.mote_top.proofs.Notes.{Noting-prefix, Noting-broke, Noting-then, Noting-last, numbers_of, numbers-more, line-parts, line-end}
 use Rattle.mote_top.proofs.note.note_line.Goals as goal
 
 pub returns-in_err-note_number-clause-said : goal.returns-in_err-note_number-clause-said
@@ -13,10 +13,10 @@ returns-in_err-note_number-clause-said g c =
     let word = c.args.word.now in
     let numbers = c.args.numbers.now in
     let i = c.loop-number.number-index in
-    let front = word ++ numbers_of (take i numbers) in
+    let prefix = word ++ numbers_of (take i numbers) in
     let number = blank_number (get_or numbers i 0) in
-    let broke = Noting-broke C.shown C.noted C.faults C.room c.args.console.now c.loop-number.console c.note_number.new.console front number c.loop-number.invariant.talked c.in_err-note_number.ensures.said in
-    let whole = Noting-front C.shown C.noted C.faults C.room c.args.console.now c.note_number.new.console (front ++ number) (numbers_of (drop (i + 1) numbers) ++ 10 ∷ []) broke in
+    let broke = Noting-broke C.shown C.noted C.faults C.room c.args.console.now c.loop-number.console c.note_number.new.console prefix number c.loop-number.invariant.talked c.in_err-note_number.ensures.said in
+    let whole = Noting-prefix C.shown C.noted C.faults C.room c.args.console.now c.note_number.new.console (prefix ++ number) (numbers_of (drop (i + 1) numbers) ++ 10 ∷ []) broke in
     let p = err_from_is_err_and c.from_residual-in_err-note_number.result c.from_residual-in_err-note_number.ensures.1 in
     rw p.1 (subst (λ (bytes : List ℕ). BrokeOff C.shown C.noted C.faults C.room c.args.console.now c.note_number.new.console (noting bytes)) (sym (line-parts word numbers i c.loop-number-test.true)) whole)
 

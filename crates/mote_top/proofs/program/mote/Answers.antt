@@ -45,12 +45,12 @@ returns-clause-stores_nothing g c = λ files out bytes refusal given is.
     refused_keeps C.left C.shown C.noted C.faults C.room (map string_bytes c.args.words.now) before after c.args.console.now c.replied.new.console c.replied.result c.replied.ensures.replied files out bytes refusal given is
 
 pub returns-clause-runs_infusion : goal.returns-clause-runs_infusion
-returns-clause-runs_infusion g c = λ bytes input ticks image spelled checked built given answer.
+returns-clause-runs_infusion g c = λ bytes input ticks image encoded checked built given answer.
     let C = g.C.Console in
     let S = g.S.Shelf in
     let before = shelved (S.kept c.args.shelf.now) (S.load_faults c.args.shelf.now) (S.store_faults c.args.shelf.now) in
     let after = shelved (S.kept c.replied.new.shelf) (S.load_faults c.replied.new.shelf) (S.store_faults c.replied.new.shelf) in
-    run_shows C.left C.shown C.noted C.faults C.room (map string_bytes c.args.words.now) before after c.args.console.now c.replied.new.console c.replied.result c.replied.ensures.replied bytes input ticks image spelled checked built given answer
+    run_shows C.left C.shown C.noted C.faults C.room (map string_bytes c.args.words.now) before after c.args.console.now c.replied.new.console c.replied.result c.replied.ensures.replied bytes input ticks image encoded checked built given answer
 
 pub returns-clause-no_infusion : goal.returns-clause-no_infusion
 returns-clause-no_infusion g c = λ bytes input ticks refusal given is.

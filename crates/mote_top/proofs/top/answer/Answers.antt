@@ -5,7 +5,7 @@ use Rattle.mote_top.specs.Words.{infuse_of, run_of, go_of, IsInfuse, IsRun, IsGo
 use Rattle.mote_top.specs.Reply.{Reply, Answers, MayReply, shelved, dialogue_of}
 use Rattle.mote_top.proofs.Answering.{Answers-quiet, Replied-quiet}
 use Rattle.mote_top.proofs.Choices.{words_may}
-use Rattle.mote_top.proofs.Places.{go_class, run_name, infuse_out, infuse_class}
+use Rattle.mote_top.proofs.Positions.{go_class, run_name, infuse_out, infuse_class}
 use Rattle.mote_top.proofs.top.answer.Goals as goal
 
 pub returns-in-Ok-Infuse-clause-replied : goal.returns-in-Ok-Infuse-clause-replied

@@ -1,5 +1,5 @@
 use Rattle.std.proofs.Common.{take, length, sym, ap, ◌∙◌}
-use Rattle.class_make.proofs.Numbered.{places_at, kept, none_behind, numbered_fewer}
+use Rattle.class_make.proofs.Numbered.{slots_at, kept, none_after, numbered_fewer}
 use Rattle.class_make.proofs.constants.Constants.keep.Goals as goal
 
 pub returns-in-None : goal.returns-in-None
@@ -7,7 +7,7 @@ returns-in-None c =
     let entries = c.self.inside.indexes.entries in
     record {
       kept = λ before of begins.
-          sym c.self.view_is ∙ ap places_at (sym (none_behind entries c.args.count (sym c.in-None.ensures.entry)))
+          sym c.self.view_is ∙ ap slots_at (sym (none_after entries c.args.count (sym c.in-None.ensures.entry)))
           ∙ kept entries c.args.count before of (ap (take (length before)) c.self.view_is ∙ begins);
     }
 
@@ -25,5 +25,5 @@ returns c =
     let entries = c.self.inside.indexes.entries in
     record {
       kept = λ before of begins.
-          ap places_at c.truncate.ensures.entries ∙ kept entries c.args.count before of (ap (take (length before)) c.self.view_is ∙ begins);
+          ap slots_at c.truncate.ensures.entries ∙ kept entries c.args.count before of (ap (take (length before)) c.self.view_is ∙ begins);
     }

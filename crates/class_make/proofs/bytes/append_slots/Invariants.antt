@@ -1,0 +1,8 @@
+use Rattle.std.proofs.Common.{◌≡◌, ◌++◌, take}
+use Rattle.std.specs.List.{flat_map}
+use Rattle.class_pool.specs.Pool.{slot_bytes}
+use Rattle.class_make.proofs.bytes.append_slots.Given as goal
+
+-- the bytes of the items so far
+abbrev pub invariant-loop-slot : goal.invariant-loop-slot
+invariant-loop-slot l = l.out.items ≡ l.initial.out.items ++ flat_map slot_bytes (take l.slot-index l.slots)

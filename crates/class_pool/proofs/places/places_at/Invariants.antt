@@ -1,8 +1,0 @@
-use Rattle.std.proofs.Common.{◌≡◌, ◌-◌, false}
-use Rattle.class_pool.specs.PoolReading.{places_at}
-use Rattle.class_pool.proofs.Loop.{with_front}
-use Rattle.class_pool.proofs.places.places_at.Given as goal
-
--- what was read so far, and what the rest gives, is the whole
-abbrev pub invariant-loop-index : goal.invariant-loop-index
-invariant-loop-index l = with_front l.places.items (places_at l.second l.index (l.count - l.index) l.rest) ≡ places_at false 1 (l.count - 1) l.bytes

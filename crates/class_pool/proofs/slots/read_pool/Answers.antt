@@ -1,0 +1,15 @@
+use Rattle.std.proofs.Common.{arith}
+use Rattle.class_pool.proofs.Pools.{is_found, is_read, is_refused, is_answered}
+use Rattle.class_pool.proofs.slots.read_pool.Goals as goal
+
+pub returns-clause-found : goal.returns-clause-found
+returns-clause-found c = is_found c.args.bytes.now c.args.at c.pool_from.result (λ i. omega (arith, c.type_inv.bytes i)) c.requires c.pool_from.ensures
+
+pub returns-clause-only : goal.returns-clause-only
+returns-clause-only c = is_read c.args.bytes.now c.args.at c.pool_from.result c.requires c.pool_from.ensures
+
+pub returns-clause-refused : goal.returns-clause-refused
+returns-clause-refused c = is_refused c.args.bytes.now c.args.at c.pool_from.result (λ i. omega (arith, c.type_inv.bytes i)) c.pool_from.ensures
+
+pub returns-clause-refused_only : goal.returns-clause-refused_only
+returns-clause-refused_only c = is_answered c.args.bytes.now c.args.at c.pool_from.result c.pool_from.ensures
