@@ -18,9 +18,9 @@ loop-preserved c =
     let above : is_above c.loop.before (key_in c.loop.rest.now) ≡ true = ap (is_above c.loop.before) (sym same) ∙ sym c.is_above.ensures ∙ c.if-not-is_above.false in
     let on = keys_rise-goes_on c.args.count c.loop.counter c.loop.before c.loop.rest.now c.loop-test.true above in
     record {
-      there = rw c.after-rest.ensures (omega (arith, length-drop 6 c.loop.rest.now));
+      there = rw c.suffix-rest.ensures (omega (arith, length-drop 6 c.loop.rest.now));
       decided =
-          rw (c.after-rest.ensures, same) (sym on ∙ c.loop.invariant.decided);
+          rw (c.suffix-rest.ensures, same) (sym on ∙ c.loop.invariant.decided);
     }
 
 pub returns : goal.returns

@@ -16,8 +16,8 @@ pub loop-preserved : goal.loop-preserved
 loop-preserved c =
     let other = rows-after c.args.default c.args.count c.loop.counter c.loop.rest.now (to_z w32 (of_z w32 c.args.wanted)) c.loop-test.true (sym c.has_key.ensures ∙ c.if-has_key.false) in
     record {
-      there = rw c.after-rest.ensures (omega (arith, length-drop 6 c.loop.rest.now));
-      same = rw c.after-rest.ensures (sym other ∙ c.loop.invariant.same);
+      there = rw c.suffix-rest.ensures (omega (arith, length-drop 6 c.loop.rest.now));
+      same = rw c.suffix-rest.ensures (sym other ∙ c.loop.invariant.same);
     }
 
 pub returns : goal.returns
