@@ -4,7 +4,7 @@ ghost use Rattle.class_file.specs.Prefixes.{FaultsHold, PrefixesAreTruncated, Pr
 /// fault there is no other.
 pub fn prefixes_decide()
     ensures cut { PrefixesAreTruncated }
-    ensures stands { FaultsHold }
+    ensures holds { FaultsHold }
     ensures none { NoneBeginsWithFaults }
     ensures first { PrefixesOfFaults }
     ensures truncated { PrefixesOfTruncated }

@@ -38,7 +38,7 @@ fn target_in(code: &[u8], place: usize) -> u16
 /// A target of the instruction that is at the offset. The default of a switch comes first, and then
 /// the targets of its rows.
 pub(crate) fn target(code: &[u8], pc: u16, insn: MInsn, index: usize) -> u16
-    requires stands { HoldsAt code.now pc insn }
+    requires holds { HoldsAt code.now pc insn }
     requires index { index < target_count_of insn }
     ensures { result ≡ slice_index (targets_at code.now (pc, insn)) index }
 {
@@ -69,7 +69,7 @@ pub(crate) fn target(code: &[u8], pc: u16, insn: MInsn, index: usize) -> u16
 /// Whether each target of the instruction that is at the offset is a start.
 fn jumps_to_starts(code: &[u8], insns: &[(u16, MInsn)], pc: u16, insn: MInsn) -> bool
     requires rises { Rises insns.now }
-    requires stands { HoldsAt code.now pc insn }
+    requires holds { HoldsAt code.now pc insn }
     ensures { result ≡ list_all (is_start_of insns.now) (targets_at code.now (pc, insn)) }
 {
     for index in 0..target_count(insn) {

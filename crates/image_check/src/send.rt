@@ -42,7 +42,7 @@ fn successor_count(insn: MInsn) -> usize
 /// A successor of the instruction of this size that is at the offset. What follows it comes
 /// first, where it goes on.
 fn successor(code: &[u8], pc: u16, insn: MInsn, size: usize, index: usize) -> u16
-    requires stands { HoldsAt code.now pc insn }
+    requires holds { HoldsAt code.now pc insn }
     requires index { index < successor_count_of insn }
     requires fits { IsTrue (goes_on_of insn) → pc + size ≤ 65535 }
     ensures { result ≡ slice_index (successors code.now pc insn size) index }
@@ -66,7 +66,7 @@ pub(crate) fn send_all(
     size: usize,
     d: Depth,
 ) -> Result<bool, Fault>
-    requires stands { HoldsAt code.now pc insn }
+    requires holds { HoldsAt code.now pc insn }
     requires within { All (λ to. to < length flow.old.depths.items) (successors code.now pc insn size) }
     requires fits { length flow.old.depths.items ≤ 65535 }
     ensures sent { let targets = successors code.now pc insn size in

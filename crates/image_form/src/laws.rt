@@ -17,7 +17,7 @@ pub fn small_is_image()
 /// fault there is no other.
 pub fn prefixes_decide()
     ensures cut { PrefixesAreTruncated }
-    ensures stands { FaultsHold }
+    ensures holds { FaultsHold }
     ensures none { NoneBeginsWithFaults }
     ensures first { PrefixesOfFaults }
     ensures truncated { PrefixesOfTruncated }
