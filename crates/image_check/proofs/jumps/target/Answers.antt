@@ -6,14 +6,14 @@ use Rattle.image_check.proofs.jumps.target.Goals as goal
 
 pub target_in-requires : goal.target_in-requires
 target_in-requires c =
-    let stands = subst (HoldsAt c.args.code.now c.args.pc) c.in-Switch.is c.requires.stands in
+    let stands = subst (HoldsAt c.args.code.now c.args.pc) c.in-Switch.is c.requires.holds in
     let bytes = switch_bytes c.args.code.now c.args.pc c.in-Switch.width c.in-Switch.default c.in-Switch.count (λ i. omega (arith, c.type_inv.code i)) stands in
     let index : c.args.index < c.in-Switch.count + 1 = subst (λ (insn : MInsn). c.args.index < target_count insn) c.in-Switch.is c.requires.index in
     omega (arith, bytes, index, c.from-pc.ensures, c.if-index-eq0.false)
 
 pub target_in-requires-else-index-eq0-2 : goal.target_in-requires-else-index-eq0-2
 target_in-requires-else-index-eq0-2 c =
-    let stands = subst (HoldsAt c.args.code.now c.args.pc) c.in-Table.is c.requires.stands in
+    let stands = subst (HoldsAt c.args.code.now c.args.pc) c.in-Table.is c.requires.holds in
     let bytes = table_bytes c.args.code.now c.args.pc c.in-Table.width c.in-Table.default c.in-Table.low c.in-Table.count (λ i. omega (arith, c.type_inv.code i)) stands in
     let index : c.args.index < c.in-Table.count + 1 = subst (λ (insn : MInsn). c.args.index < target_count insn) c.in-Table.is c.requires.index in
     omega (arith, bytes, index, c.from-pc.ensures, c.if-index-eq0-2.false)
