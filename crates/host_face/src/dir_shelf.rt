@@ -41,7 +41,10 @@ impl<R: Files> DirShelf<R> {
 
 fn read_file<R: Files>(runtime: &R, alloc: Global, name: &str) -> Result<Vec<u8>, ShelfFail> {
     match File::open(runtime, name) {
-        Ok(mut file) => streams::read_whole(alloc, &mut file),
+        Ok(mut file) => match streams::read_whole(alloc, &mut file) {
+            Ok(bytes) => Ok(bytes),
+            Err(why) => Err(ShelfFail::from(why)),
+        },
         Err(_) => Err(ShelfFail::Failed),
     }
 }
