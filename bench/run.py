@@ -135,7 +135,7 @@ def sized_class(name, size, with_main=True):
     pool = make.Pool()
     methods = []
     if with_main:
-        body = ["iload_1", "iload_0", "iadd", "istore_1"] * (min(size // 4, 40000) // 4)
+        body = ["iload_1", "iload_0", "iadd", "istore_1"] * (min(size // 4, 32000) // 4)
         head = ["iconst_0", "istore_0", "iconst_0", "istore_1"]
         code = make.assemble(pool, head + body + ["return"])
         methods.append(make.method(pool, "main", "()V", make.code_attribute(pool, code, 2, 2)))
