@@ -1,0 +1,5 @@
+pub mod Frames
+pub mod Shuffles
+pub mod Roots
+pub mod Moves
+pub mod Layout
