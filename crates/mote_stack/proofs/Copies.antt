@@ -3,7 +3,7 @@ use Rattle.std.proofs.Common.{◌≡◌, ◌≢◌, ◌⊎◌, inl, inr, ⊎_eli
 use Rattle.std.specs.List.{CopiedTo, SameBelow, SameFrom}
 use Rattle.std.proofs.lemmas.Bool.{cases_lt}
 use Rattle.mote_stack.specs.Frames.{Frame, Stack, youngest_frame}
-use Rattle.mote_stack.specs.Moves.{Rotates}
+use Rattle.mote_stack.specs.Moves.{Rotates, HandsOver}
 use Rattle.mote_stack.specs.Layout.{body_of, base_of, ref_depth_of, cell_depth_of, stack_of, IsRegion}
 use Rattle.mote_stack.specs.declared.region.Region.TheInside.{Inside}
 use Rattle.mote_stack.proofs.Changed.{Seen}
@@ -13,13 +13,13 @@ use Rattle.mote_stack.proofs.Shuffled.{MovesUp, MovesDown}
 abbrev pub Copies : List ℕ → List ℕ → ℕ → ℕ → ℕ → Type 0
 Copies old new src dest n = CopiedTo old new src dest n × SameBelow old new dest × SameFrom old new (dest + n)
 
-copied : (old new : List ℕ) (src dest n k from : ℕ) → Copies old new src dest n → dest ≤ k → k < dest + n → src + (k - dest) ≡ from → get_or new k 0 ≡ get_or old from 0
+pub copied : (old new : List ℕ) (src dest n k from : ℕ) → Copies old new src dest n → dest ≤ k → k < dest + n → src + (k - dest) ≡ from → get_or new k 0 ≡ get_or old from 0
 copied old new src dest n k from c h g e = c.0 k 0 h g ∙ ap (λ x. get_or old x 0) e
 
-uncopied_below : (old new : List ℕ) (src dest n k : ℕ) → Copies old new src dest n → k < dest → get_or new k 0 ≡ get_or old k 0
+pub uncopied_below : (old new : List ℕ) (src dest n k : ℕ) → Copies old new src dest n → k < dest → get_or new k 0 ≡ get_or old k 0
 uncopied_below old new src dest n k c h = c.1 k 0 h
 
-uncopied_above : (old new : List ℕ) (src dest n k : ℕ) → Copies old new src dest n → dest + n ≤ k → get_or new k 0 ≡ get_or old k 0
+pub uncopied_above : (old new : List ℕ) (src dest n k : ℕ) → Copies old new src dest n → dest + n ≤ k → get_or new k 0 ≡ get_or old k 0
 uncopied_above old new src dest n k c h = c.2 k 0 h
 
 -- the references K moved up, then copied beneath
@@ -123,4 +123,29 @@ swap_down i j stack m n size start end by s fits same es ee eb r =
       last = λ k h g. r.moved k (omega arith) (omega arith) ∙ ap (λ x. get_or old x 0) (omega arith);
       low = λ k h g. r.outside_below k (omega arith);
       depth = r.outside_above (i.youngest + 3) (omega arith) ∙ sym same;
+    }
+
+-- the arguments of a call copied, and the depths of the caller cut
+pub handed_over : (old mid two : List ℕ) (caller caller_base base header ref_args cell_args refs nums s1 n1 s2 d2 n2 : ℕ) → caller + 4 ≤ base → base + ref_args + cell_args ≤ header → header ≤ length old → length two ≡ length old
+    → caller_base + get_or old (caller + 2) 0 + get_or old (caller + 3) 0 ≤ caller → ref_args ≤ get_or old (caller + 2) 0 → cell_args ≤ get_or old (caller + 3) 0
+    → refs ≡ get_or old (caller + 2) 0 - ref_args → nums ≡ get_or old (caller + 3) 0 - cell_args
+    → s1 ≡ caller_base + refs → n1 ≡ ref_args → s2 + cell_args + nums ≡ caller → d2 + cell_args ≡ header → n2 ≡ cell_args
+    → Copies old mid s1 base n1 → Copies mid two s2 d2 n2
+    → HandsOver old (set (set two (caller + 2) refs) (caller + 3) nums) caller caller_base base header ref_args cell_args
+handed_over old mid two caller caller_base base header ref_args cell_args refs nums s1 n1 s2 d2 n2 above room within long halves has_refs has_cells refs_is nums_is es1 en1 es2 ed2 en2 first second =
+    let one = set two (caller + 2) refs in
+    let new = set one (caller + 3) nums in
+    let long_one : length one ≡ length two = length-set two (caller + 2) refs in
+    let other : (k : ℕ) → k ≢ caller + 2 → k ≢ caller + 3 → get_or new k 0 ≡ get_or two k 0 =
+      λ k ne no. get_or-set_other one (caller + 3) k nums 0 no ∙ get_or-set_other two (caller + 2) k refs 0 ne in
+    record {
+      low = λ k h ne no. other k ne no ∙ (uncopied_below mid two s2 d2 n2 k second (omega arith) ∙ uncopied_below old mid s1 base n1 k first h);
+      refs_left = get_or-set_other one (caller + 3) (caller + 2) nums 0 (omega arith) ∙ (get_or-set_same two (caller + 2) refs 0 (omega arith) ∙ refs_is);
+      cells_left = get_or-set_same one (caller + 3) nums 0 (omega arith) ∙ nums_is;
+      refs_handed = λ k h. other (base + k) (omega arith) (omega arith) ∙ (uncopied_below mid two s2 d2 n2 (base + k) second (omega arith)
+        ∙ copied old mid s1 base n1 (base + k) (caller_base + (get_or old (caller + 2) 0 - ref_args) + k) first (omega arith) (omega arith) (omega arith));
+      cells_handed = λ k h. other (header - 1 - k) (omega arith) (omega arith) ∙ (copied mid two s2 d2 n2 (header - 1 - k) (caller - 1 - (get_or old (caller + 3) 0 - cell_args + k)) second (omega arith) (omega arith) (omega arith)
+        ∙ uncopied_below old mid s1 base n1 (caller - 1 - (get_or old (caller + 3) 0 - cell_args + k)) first (omega arith));
+      between = λ k h g. other k (omega arith) (omega arith) ∙ (uncopied_below mid two s2 d2 n2 k second (omega arith) ∙ uncopied_above old mid s1 base n1 k first (omega arith));
+      high = λ k h. other k (omega arith) (omega arith) ∙ (uncopied_above mid two s2 d2 n2 k second (omega arith) ∙ uncopied_above old mid s1 base n1 k first (omega arith));
     }

@@ -4,3 +4,6 @@ pub mod Changed
 pub mod HalfWrites
 pub mod Shuffled
 pub mod Copies
+pub mod Walks
+pub mod RootCells
+pub mod Calls

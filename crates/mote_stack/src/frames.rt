@@ -1,7 +1,7 @@
 ghost use Rattle.std.specs.Prelude.{◌≡◌, ◌<◌, ◌≤◌, ◌+◌, ◌-◌, length, drop, MatchResult, slice_index, vec_len};
 ghost use Rattle.mote_stack.specs.Frames.{Stack, nth_frame, youngest_frame, with_youngest, with_frame, without_frame, frame_need, cells_in_use};
 ghost use Rattle.mote_stack.specs.Layout.{AreFrames, frames_below};
-ghost use Rattle.mote_stack.specs.Moves.{LaysFrame};
+ghost use Rattle.mote_stack.specs.Moves.{LaysFrame, HandsOver};
 
 use crate::region::{Region, StackWanted};
 
@@ -48,6 +48,39 @@ fn lay_frame(
     cells[header + 3] = cell_locals;
 }
 
+/// Moves the arguments off the halves of the caller to the ends of the body from `base` to `header`.
+fn hand_over(
+    cells: &mut Vec<u16>,
+    caller: usize,
+    caller_base: usize,
+    base: usize,
+    header: usize,
+    ref_args: u16,
+    cell_args: u16,
+)
+    requires caller { caller + 4 ≤ base }
+    requires room { base + ref_args + cell_args ≤ header }
+    requires within { header ≤ length cells.old.items }
+    requires small { length cells.old.items ≤ 32767 }
+    requires halves {
+        caller_base + slice_index cells.old.items (caller + 2) + slice_index cells.old.items (caller + 3) ≤ caller
+    }
+    requires ref_args { ref_args ≤ slice_index cells.old.items (caller + 2) }
+    requires cell_args { cell_args ≤ slice_index cells.old.items (caller + 3) }
+    ensures len { vec_len cells.new ≡ vec_len cells.old }
+    ensures handed { HandsOver cells.old.items cells.new.items caller caller_base base header ref_args cell_args }
+{
+    let refs = cells[caller + 2] - ref_args;
+    let nums = cells[caller + 3] - cell_args;
+    let first_ref = caller_base + usize::from(refs);
+    let last_num = caller - usize::from(nums);
+    let first_num = last_num - usize::from(cell_args);
+    cells.copy_within(first_ref..first_ref + usize::from(ref_args), base);
+    cells.copy_within(first_num..last_num, header - usize::from(cell_args));
+    cells[caller + 2] = refs;
+    cells[caller + 3] = nums;
+}
+
 impl Region {
     /// Pushes a frame with pc 0. The last `ref_args` references and `cell_args` whole-number cells of
     /// the youngest frame become its first locals, in their order; all other locals are 0.
@@ -90,19 +123,8 @@ impl Region {
         );
         if self.count > 0 {
             let caller = usize::from(self.youngest);
-            let caller_body = usize::from(self.bodies[usize::from(self.cells[caller])]);
-            let refs = self.cells[caller + 2] - ref_args;
-            let nums = self.cells[caller + 3] - cell_args;
-            let first_ref = caller - caller_body + usize::from(refs);
-            let last_num = caller - usize::from(nums);
-            self.cells
-                .copy_within(first_ref..first_ref + usize::from(ref_args), base);
-            self.cells.copy_within(
-                last_num - usize::from(cell_args)..last_num,
-                header - usize::from(cell_args),
-            );
-            self.cells[caller + 2] = refs;
-            self.cells[caller + 3] = nums;
+            let caller_base = caller - usize::from(self.bodies[usize::from(self.cells[caller])]);
+            hand_over(&mut self.cells, caller, caller_base, base, header, ref_args, cell_args);
         }
         self.used = header as u16 + 4;
         self.count += 1;
