@@ -31,17 +31,18 @@ empty_so i j frame is keeps none =
     let B : ℕ → Type 0 = λ n. AreFrames j.bodies.items j.cells.items n j.used in
     let kept : AreFrames j.bodies.items j.cells.items j.count j.used = subst B (sym none_too) (keeps.used ∙ bottom) in
     let long : length j.cells.items ≡ length i.cells.items = sym j.cells.ok.0 ∙ (keeps.len ∙ i.cells.ok.0) in
-    let within = is.within in
-    (ap (λ n. stacked n j.bodies.items (frames_below j.bodies.items j.cells.items j.count j.used)) keeps.len
-      ∙ (ap (λ fs. stacked i.cells.len j.bodies.items fs) (nothing ∙ sym after)
-        ∙ ap (λ (b : List ℕ). stacked i.cells.len b (set (frames_below i.bodies.items i.cells.items i.count i.used) 0 frame)) (rw keeps.bodies refl)),
-    record {
-      within = rw (keeps.used, long) is.within;
-      size_large = rw long is.size_large;
-      size_small = rw long is.size_small;
-      header_last = rw (keeps.youngest, keeps.used) is.header_last;
-      in_frames = kept;
-    })
+    let within = is.within in (
+      ap (λ n. stacked n j.bodies.items (frames_below j.bodies.items j.cells.items j.count j.used)) keeps.len
+          ∙ (ap (λ fs. stacked i.cells.len j.bodies.items fs) (nothing ∙ sym after)
+          ∙ ap (λ (b : List ℕ). stacked i.cells.len b (set (frames_below i.bodies.items i.cells.items i.count i.used) 0 frame)) (rw keeps.bodies refl)),
+      record {
+        within = rw (keeps.used, long) is.within;
+        size_large = rw long is.size_large;
+        size_small = rw long is.size_small;
+        header_last = rw (keeps.youngest, keeps.used) is.header_last;
+        in_frames = kept;
+      },
+    )
 
 pub empty_becomes : (i j : Inside) (stack : Stack) (frame : Frame) → stack_of i ≡ stack → IsRegion i → KeepsFields i j → i.count ≡ 0 → Becomes j (with_youngest stack frame)
 empty_becomes i j stack frame view is keeps none =
@@ -60,34 +61,38 @@ both_cut i stack two refs three cells view is less_refs less_cells at_two at_thr
     let j : Inside = record i { cells = with_item (with_item i.cells two refs) three cells } in
     ⊎_elim
     (λ (some : 0 < i.count).
-      let s = seen i stack view is (omega (arith, count_of i stack view)) in
-      let within = s.within in
-      let last = s.last in
-      let body_below = s.body_below in
-      let fit = s.lists_fit in
-      let refs_long = s.refs_long in
-      let cells_long = s.cells_long in
-      let old = i.cells.items in
-      let mid = set old two refs in
-      let new = set mid three cells in
-      let long : length mid ≡ length old = length-set old two refs in
-      let other : (k : ℕ) → k ≢ two → k ≢ three → get_or new k 0 ≡ get_or old k 0 =
-        λ k ne no. get_or-set_other mid three k cells 0 no ∙ get_or-set_other old two k refs 0 ne in
-      let cut_refs : length (take refs (youngest_frame stack).refs) ≡ refs = length-take-le refs (youngest_frame stack).refs less_refs in
-      let cut_cells : length (take cells (youngest_frame stack).cells) ≡ cells = length-take-le cells (youngest_frame stack).cells less_cells in
-      written i j stack frame is s (record {
-        bodies = refl; used = refl; count = refl; youngest = refl; len = refl;
-        below = λ k h. other k (omega arith) (omega arith);
-        method = other i.youngest (omega arith) (omega arith);
-        pc = other (i.youngest + 1) (omega arith) (omega arith) ∙ sym s.pc_is;
-        ref_depth = get_or-set_other mid three (i.youngest + 2) cells 0 (omega arith) ∙ (ap (λ x. get_or mid x 0) (sym at_two) ∙ (get_or-set_same old two refs 0 (omega arith) ∙ sym cut_refs));
-        cell_depth = ap (λ x. get_or new x 0) (sym at_three) ∙ (get_or-set_same mid three cells 0 (omega arith) ∙ sym cut_cells);
-        fits = omega arith;
-        refs = λ k h. other (base_of i.bodies.items old i.youngest + k) (omega arith) (omega arith) ∙ (sym (s.refs_at k (omega arith)) ∙ sym (get_or-take refs (youngest_frame stack).refs k 0 (omega arith)));
-        cells = λ k h. other (i.youngest - 1 - k) (omega arith) (omega arith) ∙ (sym (s.cells_at k (omega arith)) ∙ sym (get_or-take cells (youngest_frame stack).cells k 0 (omega arith)));
-        same_method = refl;
-        same_body = refl;
-      }))
+    let s = seen i stack view is (omega (arith, count_of i stack view)) in
+    let within = s.within in
+    let last = s.last in
+    let body_below = s.body_below in
+    let fit = s.lists_fit in
+    let refs_long = s.refs_long in
+    let cells_long = s.cells_long in
+    let old = i.cells.items in
+    let mid = set old two refs in
+    let new = set mid three cells in
+    let long : length mid ≡ length old = length-set old two refs in
+    let other : (k : ℕ) → k ≢ two → k ≢ three → get_or new k 0 ≡ get_or old k 0 =
+    λ k ne no. get_or-set_other mid three k cells 0 no ∙ get_or-set_other old two k refs 0 ne in
+    let cut_refs : length (take refs (youngest_frame stack).refs) ≡ refs = length-take-le refs (youngest_frame stack).refs less_refs in
+    let cut_cells : length (take cells (youngest_frame stack).cells) ≡ cells = length-take-le cells (youngest_frame stack).cells less_cells in
+    written i j stack frame is s (record {
+      bodies = refl;
+      used = refl;
+      count = refl;
+      youngest = refl;
+      len = refl;
+      below = λ k h. other k (omega arith) (omega arith);
+      method = other i.youngest (omega arith) (omega arith);
+      pc = other (i.youngest + 1) (omega arith) (omega arith) ∙ sym s.pc_is;
+      ref_depth = get_or-set_other mid three (i.youngest + 2) cells 0 (omega arith) ∙ (ap (λ x. get_or mid x 0) (sym at_two) ∙ (get_or-set_same old two refs 0 (omega arith) ∙ sym cut_refs));
+      cell_depth = ap (λ x. get_or new x 0) (sym at_three) ∙ (get_or-set_same mid three cells 0 (omega arith) ∙ sym cut_cells);
+      fits = omega arith;
+      refs = λ k h. other (base_of i.bodies.items old i.youngest + k) (omega arith) (omega arith) ∙ (sym (s.refs_at k (omega arith)) ∙ sym (get_or-take refs (youngest_frame stack).refs k 0 (omega arith)));
+      cells = λ k h. other (i.youngest - 1 - k) (omega arith) (omega arith) ∙ (sym (s.cells_at k (omega arith)) ∙ sym (get_or-take cells (youngest_frame stack).cells k 0 (omega arith)));
+      same_method = refl;
+      same_body = refl;
+    }))
     (λ (none : i.count ≤ 0). empty_becomes i j stack frame view is (record { bodies = refl; used = refl; count = refl; youngest = refl; len = refl }) (omega arith))
     (cases_lt 0 i.count)
   where
@@ -98,7 +103,7 @@ popped_so : (i : Inside) (base last : ℕ) → Seen i (stack_of i) → base ≡ 
 unfolding stacked
 popped_so i base last s low =
     let below : frames_below i.bodies.items i.cells.items (i.count - 1) base ≡ drop 1 (frames_below i.bodies.items i.cells.items i.count i.used) =
-      rw low (sym (ap (λ fs. drop 1 fs) s.view.frames)) in
+    rw low (sym (ap (λ fs. drop 1 fs) s.view.frames)) in
     ap (λ fs. stacked i.cells.len i.bodies.items fs) below
 
 -- the youngest frame removed
@@ -171,10 +176,10 @@ passed_next i stack laid new caller_base header method ref_locals cell_locals re
       its_refs = hands.high (header + 2) (omega arith) ∙ lays.its_refs;
       its_cells = hands.high (header + 3) (omega arith) ∙ lays.its_cells;
       refs_handed = λ k h. hands.refs_handed k h ∙ (lays.below (caller_base + (get_or laid (y + 2) 0 - ref_args) + k) (omega arith)
-        ∙ (ap (λ x. get_or old x 0) (omega arith) ∙ sym (s.refs_at (length (youngest_frame stack).refs - ref_args + k) (omega arith))));
+          ∙ (ap (λ x. get_or old x 0) (omega arith) ∙ sym (s.refs_at (length (youngest_frame stack).refs - ref_args + k) (omega arith))));
       refs_zero = λ k h g. hands.between (i.used + k) (omega arith) (omega arith) ∙ lays.zeros (i.used + k) (omega arith) (omega arith);
       cells_handed = λ k h. hands.cells_handed k h ∙ (lays.below (y - 1 - (get_or laid (y + 3) 0 - cell_args + k)) (omega arith)
-        ∙ (ap (λ x. get_or old x 0) (omega arith) ∙ sym (s.cells_at (length (youngest_frame stack).cells - cell_args + k) (omega arith))));
+          ∙ (ap (λ x. get_or old x 0) (omega arith) ∙ sym (s.cells_at (length (youngest_frame stack).cells - cell_args + k) (omega arith))));
       cells_zero = λ k h g. hands.between (header - 1 - k) (omega arith) (omega arith) ∙ lays.zeros (header - 1 - k) (omega arith) (omega arith);
     }
 
@@ -200,7 +205,11 @@ caller_cut i j stack laid caller_base header method ref_locals cell_locals ref_a
     let cut_cells : length (without_last cell_args nums) ≡ length nums - cell_args = length-take-le (length nums - cell_args) nums (omega arith) in
     let other : (k : ℕ) → k < i.used → k ≢ y + 2 → k ≢ y + 3 → get_or j.cells.items k 0 ≡ get_or old k 0 = λ k h ne no. hands.low k h ne no ∙ lays.below k h in
     written i j stack (calling_frame stack ref_args cell_args) is s (record {
-      bodies = keeps.bodies; used = keeps.used; count = keeps.count; youngest = keeps.youngest; len = keeps.len;
+      bodies = keeps.bodies;
+      used = keeps.used;
+      count = keeps.count;
+      youngest = keeps.youngest;
+      len = keeps.len;
       below = λ k h. other k (omega arith) (omega arith) (omega arith);
       method = other y (omega arith) (omega arith) (omega arith);
       pc = other (y + 1) (omega arith) (omega arith) (omega arith) ∙ sym s.pc_is;
@@ -234,8 +243,8 @@ entered_so j frame used count youngest is at end more within known body_is metho
       lists_fit = omega arith;
     } in
     let is_frame : frame_at bodies cells youngest ≡ frame =
-      frame_is bodies cells youngest frame (omega arith) is_header method pc body refs_long cells_long
-      (λ k h. ap (λ b. get_or cells (b + k) 0) base ∙ refs k h) nums in
+    frame_is bodies cells youngest frame (omega arith) is_header method pc body refs_long cells_long
+    (λ k h. ap (λ b. get_or cells (b + k) 0) base ∙ refs k h) nums in
     let P : ℕ → Type 0 = λ b. (frame_at bodies cells youngest ∷ frames_below bodies cells j.count b ≡ frame ∷ frames_below bodies cells j.count j.used) × AreFrames bodies cells j.count b in
     let first : P j.used = (ap (λ f. f ∷ frames_below bodies cells j.count j.used) is_frame, is.in_frames) in
     let second : P (base_of bodies cells youngest) = subst P (sym base) first in
@@ -243,15 +252,16 @@ entered_so j frame used count youngest is at end more within known body_is metho
     let top : youngest ≡ used - 4 = omega arith in
     let third : Q (used - 4) = subst Q top (second.0, (omega arith, is_header, second.1)) in
     let R : ℕ → Type 0 = λ n. (frames_below bodies cells n used ≡ frame ∷ frames_below bodies cells j.count j.used) × AreFrames bodies cells n used in
-    let all : R count = subst R (sym more) third in
-    (ap (λ fs. stacked j.cells.len bodies fs) all.0,
-    record {
-      within = within;
-      size_large = is.size_large;
-      size_small = is.size_small;
-      header_last = top;
-      in_frames = all.1;
-    })
+    let all : R count = subst R (sym more) third in (
+      ap (λ fs. stacked j.cells.len bodies fs) all.0,
+      record {
+        within = within;
+        size_large = is.size_large;
+        size_small = is.size_small;
+        header_last = top;
+        in_frames = all.1;
+      },
+    )
 
 -- a call, from the stack with the caller cut
 pub entered : (j : Inside) (stack : Stack) (method ref_locals cell_locals ref_args cell_args used count youngest : ℕ) → Becomes j (with_youngest stack (calling_frame stack ref_args cell_args))
@@ -269,14 +279,14 @@ entered j stack method ref_locals cell_locals ref_args cell_args used count youn
     let bodies : j.bodies.items ≡ stack.bodies = ap (λ (s : Stack). s.bodies) becomes.0 in
     let P : Stack → Type 0 = λ s. Becomes (record j { used = used; count = count; youngest = youngest }) (record s { frames = frame ∷ s.frames }) in
     subst P becomes.0 (entered_so j frame used count youngest becomes.1 at end (omega arith) within (rw bodies known) (rw bodies refl) passed.its_method passed.its_pc (passed.its_refs ∙ sym long_refs) (passed.its_cells ∙ sym long_cells) (omega arith)
-      (λ k h. ⊎_elim
-        (λ (small : k < ref_args). passed.refs_handed k small ∙ sym (locals_first ref_args ref_locals refs k has_refs small))
-        (λ (large : ref_args ≤ k). passed.refs_zero k large (omega arith) ∙ sym (locals_rest ref_args ref_locals refs k has_refs large (omega arith)))
-        (cases_lt k ref_args))
-      (λ k h. ⊎_elim
-        (λ (small : k < cell_args). passed.cells_handed k small ∙ sym (locals_first cell_args cell_locals nums k has_cells small))
-        (λ (large : cell_args ≤ k). passed.cells_zero k large (omega arith) ∙ sym (locals_rest cell_args cell_locals nums k has_cells large (omega arith)))
-        (cases_lt k cell_args)))
+    (λ k h. ⊎_elim
+    (λ (small : k < ref_args). passed.refs_handed k small ∙ sym (locals_first ref_args ref_locals refs k has_refs small))
+    (λ (large : ref_args ≤ k). passed.refs_zero k large (omega arith) ∙ sym (locals_rest ref_args ref_locals refs k has_refs large (omega arith)))
+    (cases_lt k ref_args))
+    (λ k h. ⊎_elim
+    (λ (small : k < cell_args). passed.cells_handed k small ∙ sym (locals_first cell_args cell_locals nums k has_cells small))
+    (λ (large : cell_args ≤ k). passed.cells_zero k large (omega arith) ∙ sym (locals_rest cell_args cell_locals nums k has_cells large (omega arith)))
+    (cases_lt k cell_args)))
 
 -- what a call compares
 pub record Sizes (i : Inside) (stack : Stack) (method body : ℕ) : Type 0 where

@@ -177,7 +177,7 @@ written_so i j frame is s w =
       record {
         within = rw (w.used, long) within;
         size_large = rw long is.size_large;
-      size_small = rw long small;
+        size_small = rw long small;
         header_last = rw (w.youngest, w.used) is.header_last;
         in_frames = kept;
       },

@@ -36,7 +36,7 @@ dup_up i j stack mid two m n size s1 d1 n1 s2 d2 n2 there depth s fits grown roo
     let body_below = s.body_below in
     let old = i.cells.items in
     let other : (k : ℕ) → k ≢ there → get_or j.cells.items k 0 ≡ get_or two k 0 =
-      λ k ne. ap (λ xs. get_or xs k 0) is ∙ get_or-set_other two there k depth 0 ne in
+    λ k ne. ap (λ xs. get_or xs k 0) is ∙ get_or-set_other two there k depth 0 ne in
     record {
       same = λ k h. other k (omega arith) ∙ (uncopied_below mid two s2 d2 n2 k second (omega arith) ∙ uncopied_below old mid s1 d1 n1 k first (omega arith));
       next = λ k h g. other k (omega arith) ∙ (copied mid two s2 d2 n2 k (k + (m + n)) second (omega arith) (omega arith) (omega arith) ∙ copied old mid s1 d1 n1 (k + (m + n)) (k + n) first (omega arith) (omega arith) (omega arith));
@@ -59,7 +59,7 @@ dup_down i j stack mid two m n size s1 d1 n1 s2 d2 n2 there depth s fits grown r
     let body_below = s.body_below in
     let old = i.cells.items in
     let other : (k : ℕ) → k ≢ there → get_or j.cells.items k 0 ≡ get_or two k 0 =
-      λ k ne. ap (λ xs. get_or xs k 0) is ∙ get_or-set_other two there k depth 0 ne in
+    λ k ne. ap (λ xs. get_or xs k 0) is ∙ get_or-set_other two there k depth 0 ne in
     record {
       same = λ k h ne. other k (λ e. ne (omega arith)) ∙ (uncopied_above mid two s2 d2 n2 k second (omega arith) ∙ uncopied_above old mid s1 d1 n1 k first (omega arith));
       next = λ k h g. other k (omega arith) ∙ (copied mid two s2 d2 n2 k (k - (m + n)) second (omega arith) (omega arith) (omega arith) ∙ copied old mid s1 d1 n1 (k - (m + n)) (k - n) first (omega arith) (omega arith) (omega arith));
@@ -82,7 +82,7 @@ drop_down i j stack mid above size s1 d1 n1 there depth s fits less es1 ed1 en1 
     let fit = s.lists_fit in
     let old = i.cells.items in
     let other : (k : ℕ) → k ≢ there → get_or j.cells.items k 0 ≡ get_or mid k 0 =
-      λ k ne. ap (λ xs. get_or xs k 0) is ∙ get_or-set_other mid there k depth 0 ne in
+    λ k ne. ap (λ xs. get_or xs k 0) is ∙ get_or-set_other mid there k depth 0 ne in
     record {
       same = λ k h ne. other k (λ e. ne (omega arith)) ∙ uncopied_above old mid s1 d1 n1 k first (omega arith);
       next = λ k h g. other k (omega arith) ∙ copied old mid s1 d1 n1 k (k - 1) first (omega arith) (omega arith) (omega arith);
@@ -137,15 +137,15 @@ handed_over old mid two caller caller_base base header ref_args cell_args refs n
     let new = set one (caller + 3) nums in
     let long_one : length one ≡ length two = length-set two (caller + 2) refs in
     let other : (k : ℕ) → k ≢ caller + 2 → k ≢ caller + 3 → get_or new k 0 ≡ get_or two k 0 =
-      λ k ne no. get_or-set_other one (caller + 3) k nums 0 no ∙ get_or-set_other two (caller + 2) k refs 0 ne in
+    λ k ne no. get_or-set_other one (caller + 3) k nums 0 no ∙ get_or-set_other two (caller + 2) k refs 0 ne in
     record {
       low = λ k h ne no. other k ne no ∙ (uncopied_below mid two s2 d2 n2 k second (omega arith) ∙ uncopied_below old mid s1 base n1 k first h);
       refs_left = get_or-set_other one (caller + 3) (caller + 2) nums 0 (omega arith) ∙ (get_or-set_same two (caller + 2) refs 0 (omega arith) ∙ refs_is);
       cells_left = get_or-set_same one (caller + 3) nums 0 (omega arith) ∙ nums_is;
       refs_handed = λ k h. other (base + k) (omega arith) (omega arith) ∙ (uncopied_below mid two s2 d2 n2 (base + k) second (omega arith)
-        ∙ copied old mid s1 base n1 (base + k) (caller_base + (get_or old (caller + 2) 0 - ref_args) + k) first (omega arith) (omega arith) (omega arith));
+          ∙ copied old mid s1 base n1 (base + k) (caller_base + (get_or old (caller + 2) 0 - ref_args) + k) first (omega arith) (omega arith) (omega arith));
       cells_handed = λ k h. other (header - 1 - k) (omega arith) (omega arith) ∙ (copied mid two s2 d2 n2 (header - 1 - k) (caller - 1 - (get_or old (caller + 3) 0 - cell_args + k)) second (omega arith) (omega arith) (omega arith)
-        ∙ uncopied_below old mid s1 base n1 (caller - 1 - (get_or old (caller + 3) 0 - cell_args + k)) first (omega arith));
+          ∙ uncopied_below old mid s1 base n1 (caller - 1 - (get_or old (caller + 3) 0 - cell_args + k)) first (omega arith));
       between = λ k h g. other k (omega arith) (omega arith) ∙ (uncopied_below mid two s2 d2 n2 k second (omega arith) ∙ uncopied_above old mid s1 base n1 k first (omega arith));
       high = λ k h. other k (omega arith) (omega arith) ∙ (uncopied_above mid two s2 d2 n2 k second (omega arith) ∙ uncopied_above old mid s1 base n1 k first (omega arith));
     }

@@ -35,8 +35,8 @@ position_within bodies cells (suc older) top k within are there =
     let all : length (refs_of (frames_below bodies cells older base) ++ refs) ≡ below + length refs = length-append (refs_of (frames_below bodies cells older base)) refs in
     ⊎_elim
     (λ (small : k < below).
-      let rest = position_within bodies cells older base k (omega arith) are.2 small in
-      omega (arith, position_low bodies cells older top k small))
+    let rest = position_within bodies cells older base k (omega arith) are.2 small in
+    omega (arith, position_low bodies cells older top k small))
     (λ (large : below ≤ k). omega (arith, position_high bodies cells older top k large))
     (cases_lt k below)
 
@@ -54,11 +54,11 @@ root_read bodies cells (suc older) top k within are there =
     let all : length (lower ++ refs) ≡ length lower + length refs = length-append lower refs in
     ⊎_elim
     (λ (small : k < length lower).
-      ap (λ x. get_or cells x 0) (position_low bodies cells older top k small)
-        ∙ (root_read bodies cells older base k (omega arith) are.2 small ∙ sym (get_or_append_left lower refs 0 k small)))
+    ap (λ x. get_or cells x 0) (position_low bodies cells older top k small)
+    ∙ (root_read bodies cells older base k (omega arith) are.2 small ∙ sym (get_or_append_left lower refs 0 k small)))
     (λ (large : length lower ≤ k).
-      ap (λ x. get_or cells x 0) (position_high bodies cells older top k large)
-        ∙ (sym (get_up cells base (ref_depth_of cells header) (k - length lower) (omega arith)) ∙ sym (get_or-append_right lower refs (length lower) k 0 refl large)))
+    ap (λ x. get_or cells x 0) (position_high bodies cells older top k large)
+    ∙ (sym (get_up cells base (ref_depth_of cells header) (k - length lower) (omega arith)) ∙ sym (get_or-append_right lower refs (length lower) k 0 refl large)))
     (cases_lt k (length lower))
 
 -- the frames after a write to the cell of a reference
@@ -81,9 +81,9 @@ root_set bodies cells (suc older) top k v at within are there is =
     let down : length frame.cells ≡ cell_depth_of cells header = length_down cells header (cell_depth_of cells header) (omega arith) (omega arith) in
     let all : length (lower ++ refs) ≡ length lower + length refs = length-append lower refs in
     let inside : at + cell_depth_of cells header < header = ⊎_elim
-      (λ (small : k < length lower). omega (arith, is, position_low bodies cells older top k small, position_within bodies cells older base k (omega arith) are.2 small))
-      (λ (large : length lower ≤ k). omega (arith, is, position_high bodies cells older top k large))
-      (cases_lt k (length lower)) in
+    (λ (small : k < length lower). omega (arith, is, position_low bodies cells older top k small, position_within bodies cells older base k (omega arith) are.2 small))
+    (λ (large : length lower ≤ k). omega (arith, is, position_high bodies cells older top k large))
+    (cases_lt k (length lower)) in
     let method : get_or new header 0 ≡ get_or cells header 0 = other header (omega arith) in
     let pc : get_or new (header + 1) 0 ≡ get_or cells (header + 1) 0 = other (header + 1) (omega arith) in
     let ref_depth : get_or new (header + 2) 0 ≡ get_or cells (header + 2) 0 = other (header + 2) (omega arith) in
@@ -96,41 +96,45 @@ root_set bodies cells (suc older) top k v at within are there is =
       lists_fit = rw (method, ref_depth, cell_depth) fit;
     } in
     let nums : (i : ℕ) → i < length frame.cells → get_or new (header - 1 - i) 0 ≡ get_or frame.cells i 0 = λ i h.
-      other (header - 1 - i) (omega arith) ∙ sym (get_down cells header (cell_depth_of cells header) i (omega arith) (omega arith) (omega arith)) in
+    other (header - 1 - i) (omega arith) ∙ sym (get_down cells header (cell_depth_of cells header) i (omega arith) (omega arith) (omega arith)) in
     let Goal : ℕ → Type 0 = λ b. (frame_at bodies new header ∷ frames_below bodies new older b ≡ set_reference (frame ∷ frames_below bodies cells older base) k v) × AreFrames bodies new older b in
     let closed : Goal base → (frame_at bodies new header ∷ frames_below bodies new older (base_of bodies new header) ≡ set_reference (frame ∷ frames_below bodies cells older base) k v) × ((4 ≤ top) × IsHeader bodies new header × AreFrames bodies new older (base_of bodies new header)) =
-      λ goal. let moved = subst Goal (sym low) goal in (moved.0, (deep, is_header, moved.1)) in
+    λ goal. let moved = subst Goal (sym low) goal in (moved.0, (deep, is_header, moved.1)) in
     ⊎_elim
     (λ (small : k < length lower).
-      let at_is : at ≡ root_position bodies cells older base k = is ∙ position_low bodies cells older top k small in
-      let under = position_within bodies cells older base k (omega arith) are.2 small in
-      let rest = root_set bodies cells older base k v at (omega arith) are.2 small at_is in
-      let same : frame_at bodies new header ≡ frame =
-        frame_is bodies new header frame (omega arith) is_header method pc body (ref_depth ∙ sym up) (cell_depth ∙ sym down)
-        (λ i h. ap (λ b. get_or new (b + i) 0) low ∙ (other (base + i) (omega arith) ∙ sym (get_up cells base (ref_depth_of cells header) i (omega arith))))
-        nums in
-      closed (ap (λ f. f ∷ frames_below bodies new older base) same
-        ∙ (ap (λ fs. frame ∷ fs) rest.0
+    let at_is : at ≡ root_position bodies cells older base k = is ∙ position_low bodies cells older top k small in
+    let under = position_within bodies cells older base k (omega arith) are.2 small in
+    let rest = root_set bodies cells older base k v at (omega arith) are.2 small at_is in
+    let same : frame_at bodies new header ≡ frame =
+    frame_is bodies new header frame (omega arith) is_header method pc body (ref_depth ∙ sym up) (cell_depth ∙ sym down)
+    (λ i h. ap (λ b. get_or new (b + i) 0) low ∙ (other (base + i) (omega arith) ∙ sym (get_up cells base (ref_depth_of cells header) i (omega arith))))
+    nums in
+    closed (
+      ap (λ f. f ∷ frames_below bodies new older base) same
+          ∙ (ap (λ fs. frame ∷ fs) rest.0
           ∙ sym (ap (λ (t : Bool). if t then frame ∷ set_reference (frames_below bodies cells older base) k v else (record frame { refs = set refs (k - length lower) v }) ∷ frames_below bodies cells older base) (lt-ltb k (length lower) small))),
-      rest.1))
+      rest.1,
+    ))
     (λ (large : length lower ≤ k).
-      let at_is : at ≡ base + (k - length lower) = is ∙ position_high bodies cells older top k large in
-      let rest = same_below bodies cells new older base (omega arith) (record { long = long; same = λ i h. other i (omega arith) }) are.2 in
-      let wrote : length (set refs (k - length lower) v) ≡ length refs = length-set refs (k - length lower) v in
-      let same : frame_at bodies new header ≡ record frame { refs = set refs (k - length lower) v } =
-        frame_is bodies new header (record frame { refs = set refs (k - length lower) v }) (omega arith) is_header method pc body (ref_depth ∙ (sym up ∙ sym wrote)) (cell_depth ∙ sym down)
-        (λ i h. ap (λ b. get_or new (b + i) 0) low ∙ ⊎_elim
-          (λ (here : i ≡ k - length lower).
-            let place : base + i ≡ at = omega arith in
-            ap (λ x. get_or new x 0) place ∙ (get_or-set_same cells at v 0 (omega arith)
-              ∙ sym (ap (λ x. get_or (set refs (k - length lower) v) x 0) here ∙ get_or-set_same refs (k - length lower) v 0 (omega arith))))
-          (λ (ne : i ≢ k - length lower).
-            other (base + i) (λ e. ne (omega arith)) ∙ (sym (get_up cells base (ref_depth_of cells header) i (omega arith))
-              ∙ sym (get_or-set_other refs (k - length lower) i v 0 ne)))
-          (cases_eq i (k - length lower)))
-        nums in
-      closed (ap (λ f. f ∷ frames_below bodies new older base) same
-        ∙ (ap (λ fs. (record frame { refs = set refs (k - length lower) v }) ∷ fs) rest.0
+    let at_is : at ≡ base + (k - length lower) = is ∙ position_high bodies cells older top k large in
+    let rest = same_below bodies cells new older base (omega arith) (record { long = long; same = λ i h. other i (omega arith) }) are.2 in
+    let wrote : length (set refs (k - length lower) v) ≡ length refs = length-set refs (k - length lower) v in
+    let same : frame_at bodies new header ≡ record frame { refs = set refs (k - length lower) v } =
+    frame_is bodies new header (record frame { refs = set refs (k - length lower) v }) (omega arith) is_header method pc body (ref_depth ∙ (sym up ∙ sym wrote)) (cell_depth ∙ sym down)
+    (λ i h. ap (λ b. get_or new (b + i) 0) low ∙ ⊎_elim
+    (λ (here : i ≡ k - length lower).
+    let place : base + i ≡ at = omega arith in
+    ap (λ x. get_or new x 0) place ∙ (get_or-set_same cells at v 0 (omega arith)
+    ∙ sym (ap (λ x. get_or (set refs (k - length lower) v) x 0) here ∙ get_or-set_same refs (k - length lower) v 0 (omega arith))))
+    (λ (ne : i ≢ k - length lower).
+    other (base + i) (λ e. ne (omega arith)) ∙ (sym (get_up cells base (ref_depth_of cells header) i (omega arith))
+    ∙ sym (get_or-set_other refs (k - length lower) i v 0 ne)))
+    (cases_eq i (k - length lower)))
+    nums in
+    closed (
+      ap (λ f. f ∷ frames_below bodies new older base) same
+          ∙ (ap (λ fs. (record frame { refs = set refs (k - length lower) v }) ∷ fs) rest.0
           ∙ sym (ap (λ (t : Bool). if t then frame ∷ set_reference (frames_below bodies cells older base) k v else (record frame { refs = set refs (k - length lower) v }) ∷ frames_below bodies cells older base) (le-ltb k (length lower) large))),
-      rest.1))
+      rest.1,
+    ))
     (cases_lt k (length lower))

@@ -44,15 +44,17 @@ duplicated_shuffles m n items there =
     let la : length a ≡ length items - (m + n) = length-take-le (length items - (m + n)) items (omega arith) in
     let lb : length b ≡ m = length-drop (length items - m) items ∙ omega arith in
     let lc : length c ≡ m + n = length-drop (length items - (m + n)) items ∙ omega arith in
-    let all = length_joined a b c in
-    (record {
-      there = there;
-      short = omega arith;
-      bound = omega arith;
-      same = λ k h. joined_first a b c k (omega arith) ∙ get_or-take (length items - (m + n)) items k 0 h;
-      next = λ k h g. joined_second a b c k (omega arith) (omega arith) ∙ (get_or-drop (length items - m) items (k - length a) 0 ∙ ap (λ x. get_or items x 0) (omega arith));
-      last = λ k h g. joined_third a b c k (omega arith) ∙ (get_or-drop (length items - (m + n)) items (k - (length a + length b)) 0 ∙ ap (λ x. get_or items x 0) (omega arith));
-    }, omega arith)
+    let all = length_joined a b c in (
+      record {
+        there = there;
+        short = omega arith;
+        bound = omega arith;
+        same = λ k h. joined_first a b c k (omega arith) ∙ get_or-take (length items - (m + n)) items k 0 h;
+        next = λ k h g. joined_second a b c k (omega arith) (omega arith) ∙ (get_or-drop (length items - m) items (k - length a) 0 ∙ ap (λ x. get_or items x 0) (omega arith));
+        last = λ k h g. joined_third a b c k (omega arith) ∙ (get_or-drop (length items - (m + n)) items (k - (length a + length b)) 0 ∙ ap (λ x. get_or items x 0) (omega arith));
+      },
+      omega arith,
+    )
 
 pub exchanged_shuffles : (m n : ℕ) (items : List ℕ) → m + n ≤ length items → Shuffled items (exchanged m n items) m n × (length (exchanged m n items) ≡ length items)
 exchanged_shuffles m n items there =
@@ -64,15 +66,17 @@ exchanged_shuffles m n items there =
     let lb : length b ≡ m = length-drop (length items - m) items ∙ omega arith in
     let ld : length d ≡ m + n = length-drop (length items - (m + n)) items ∙ omega arith in
     let lc : length c ≡ n = length-take-le (length d - m) d (omega arith) ∙ omega arith in
-    let all = length_joined a b c in
-    (record {
-      there = there;
-      short = omega arith;
-      bound = omega arith;
-      same = λ k h. joined_first a b c k (omega arith) ∙ get_or-take (length items - (m + n)) items k 0 h;
-      next = λ k h g. joined_second a b c k (omega arith) (omega arith) ∙ (get_or-drop (length items - m) items (k - length a) 0 ∙ ap (λ x. get_or items x 0) (omega arith));
-      last = λ k h g. joined_third a b c k (omega arith) ∙ (get_or-take (length d - m) d (k - (length a + length b)) 0 (omega arith) ∙ (get_or-drop (length items - (m + n)) items (k - (length a + length b)) 0 ∙ ap (λ x. get_or items x 0) (omega arith)));
-    }, omega arith)
+    let all = length_joined a b c in (
+      record {
+        there = there;
+        short = omega arith;
+        bound = omega arith;
+        same = λ k h. joined_first a b c k (omega arith) ∙ get_or-take (length items - (m + n)) items k 0 h;
+        next = λ k h g. joined_second a b c k (omega arith) (omega arith) ∙ (get_or-drop (length items - m) items (k - length a) 0 ∙ ap (λ x. get_or items x 0) (omega arith));
+        last = λ k h g. joined_third a b c k (omega arith) ∙ (get_or-take (length d - m) d (k - (length a + length b)) 0 (omega arith) ∙ (get_or-drop (length items - (m + n)) items (k - (length a + length b)) 0 ∙ ap (λ x. get_or items x 0) (omega arith)));
+      },
+      omega arith,
+    )
 
 pub without_item_shuffles : (depth : ℕ) (items : List ℕ) → depth < length items → Shuffled items (without_item depth items) depth 1 × (length (without_item depth items) ≡ length items - 1)
 without_item_shuffles depth items there =
@@ -80,15 +84,17 @@ without_item_shuffles depth items there =
     let b = last_items depth items in
     let la : length a ≡ length items - (depth + 1) = length-take-le (length items - (depth + 1)) items (omega arith) in
     let lb : length b ≡ depth = length-drop (length items - depth) items ∙ omega arith in
-    let all : length (a ++ b) ≡ length a + length b = length-append a b in
-    (record {
-      there = omega arith;
-      short = omega arith;
-      bound = omega arith;
-      same = λ k h. get_or_append_left a b 0 k (omega arith) ∙ get_or-take (length items - (depth + 1)) items k 0 h;
-      next = λ k h g. get_or-append_right a b (length a) k 0 refl (omega arith) ∙ (get_or-drop (length items - depth) items (k - length a) 0 ∙ ap (λ x. get_or items x 0) (omega arith));
-      last = λ k h g. absurd (omega arith);
-    }, omega arith)
+    let all : length (a ++ b) ≡ length a + length b = length-append a b in (
+      record {
+        there = omega arith;
+        short = omega arith;
+        bound = omega arith;
+        same = λ k h. get_or_append_left a b 0 k (omega arith) ∙ get_or-take (length items - (depth + 1)) items k 0 h;
+        next = λ k h g. get_or-append_right a b (length a) k 0 refl (omega arith) ∙ (get_or-drop (length items - depth) items (k - length a) 0 ∙ ap (λ x. get_or items x 0) (omega arith));
+        last = λ k h g. absurd (omega arith);
+      },
+      omega arith,
+    )
 
 -- cells moved as a shuffle of the references moves them
 pub record MovesUp (i j : Inside) (m n size : ℕ) : Type 0 where
@@ -119,15 +125,15 @@ refs_shuffled i j stack result m n size is s keeps to long room w =
       depth = w.depth ∙ sym long;
       fits = omega arith;
       refs_at = λ k h. ⊎_elim
-        (λ (low : k < length (youngest_frame stack).refs - (m + n)).
+          (λ (low : k < length (youngest_frame stack).refs - (m + n)).
           w.same (base + k) (omega arith) ∙ (sym (s.refs_at k (omega arith)) ∙ sym (to.same k low)))
-        (λ (above : length (youngest_frame stack).refs - (m + n) ≤ k). ⊎_elim
+          (λ (above : length (youngest_frame stack).refs - (m + n) ≤ k). ⊎_elim
           (λ (mid : k < length (youngest_frame stack).refs - n).
-            w.next (base + k) (omega arith) (omega arith) ∙ (ap (λ x. get_or old x 0) (omega arith) ∙ (sym (s.refs_at (k + n) (omega arith)) ∙ sym (to.next k above mid))))
+          w.next (base + k) (omega arith) (omega arith) ∙ (ap (λ x. get_or old x 0) (omega arith) ∙ (sym (s.refs_at (k + n) (omega arith)) ∙ sym (to.next k above mid))))
           (λ (past : length (youngest_frame stack).refs - n ≤ k).
-            w.last (base + k) (omega arith) (omega arith) ∙ (ap (λ x. get_or old x 0) (omega arith) ∙ (sym (s.refs_at (k - m) (omega arith)) ∙ sym (to.last k past h))))
+          w.last (base + k) (omega arith) (omega arith) ∙ (ap (λ x. get_or old x 0) (omega arith) ∙ (sym (s.refs_at (k - m) (omega arith)) ∙ sym (to.last k past h))))
           (cases_lt k (length (youngest_frame stack).refs - n)))
-        (cases_lt k (length (youngest_frame stack).refs - (m + n)));
+          (cases_lt k (length (youngest_frame stack).refs - (m + n)));
     })
 
 -- cells moved as a shuffle of the whole-number cells moves them
@@ -158,13 +164,13 @@ cells_shuffled i j stack result m n size is s keeps to long room w =
       depth = w.depth ∙ sym long;
       fits = omega arith;
       cells_at = λ k h. ⊎_elim
-        (λ (low : k < length (youngest_frame stack).cells - (m + n)).
+          (λ (low : k < length (youngest_frame stack).cells - (m + n)).
           w.same (y - 1 - k) (omega arith) (omega arith) ∙ (sym (s.cells_at k (omega arith)) ∙ sym (to.same k low)))
-        (λ (above : length (youngest_frame stack).cells - (m + n) ≤ k). ⊎_elim
+          (λ (above : length (youngest_frame stack).cells - (m + n) ≤ k). ⊎_elim
           (λ (mid : k < length (youngest_frame stack).cells - n).
-            w.next (y - 1 - k) (omega arith) (omega arith) ∙ (ap (λ x. get_or old x 0) (omega arith) ∙ (sym (s.cells_at (k + n) (omega arith)) ∙ sym (to.next k above mid))))
+          w.next (y - 1 - k) (omega arith) (omega arith) ∙ (ap (λ x. get_or old x 0) (omega arith) ∙ (sym (s.cells_at (k + n) (omega arith)) ∙ sym (to.next k above mid))))
           (λ (past : length (youngest_frame stack).cells - n ≤ k).
-            w.last (y - 1 - k) (omega arith) (omega arith) ∙ (ap (λ x. get_or old x 0) (omega arith) ∙ (sym (s.cells_at (k - m) (omega arith)) ∙ sym (to.last k past h))))
+          w.last (y - 1 - k) (omega arith) (omega arith) ∙ (ap (λ x. get_or old x 0) (omega arith) ∙ (sym (s.cells_at (k - m) (omega arith)) ∙ sym (to.last k past h))))
           (cases_lt k (length (youngest_frame stack).cells - n)))
-        (cases_lt k (length (youngest_frame stack).cells - (m + n)));
+          (cases_lt k (length (youngest_frame stack).cells - (m + n)));
     })

@@ -45,7 +45,7 @@ refs_next bodies cells count top header older base depth view within less low is
     let last = view.header_last in
     let up : length (frame_at bodies cells header).refs ≡ ref_depth_of cells header = length_up cells (base_of bodies cells header) (ref_depth_of cells header) (omega arith) in
     let all : length (refs_of (frames_below bodies cells count top)) ≡ length (refs_of (frames_below bodies cells older base) ++ (frame_at bodies cells header).refs) =
-      ap (λ fs. length (refs_of fs)) (list_next bodies cells count top header older base view less low) in
+    ap (λ fs. length (refs_of fs)) (list_next bodies cells count top header older base view less low) in
     all ∙ (length-append (refs_of (frames_below bodies cells older base)) (frame_at bodies cells header).refs ∙ omega arith)
 
 -- there are no more references than cells
@@ -59,7 +59,7 @@ refs_bound bodies cells (suc older) top within are =
     let rest = refs_bound bodies cells older base (omega arith) are.2 in
     let up : length (frame_at bodies cells (top - 4)).refs ≡ ref_depth_of cells (top - 4) = length_up cells base (ref_depth_of cells (top - 4)) (omega arith) in
     let all : length (refs_of (frames_below bodies cells older base) ++ (frame_at bodies cells (top - 4)).refs) ≡ length (refs_of (frames_below bodies cells older base)) + length (frame_at bodies cells (top - 4)).refs =
-      length-append (refs_of (frames_below bodies cells older base)) (frame_at bodies cells (top - 4)).refs in
+    length-append (refs_of (frames_below bodies cells older base)) (frame_at bodies cells (top - 4)).refs in
     omega arith
 
 -- where a reference is, from one frame to the next

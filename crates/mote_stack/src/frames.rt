@@ -62,9 +62,7 @@ fn hand_over(
     requires room { base + ref_args + cell_args ≤ header }
     requires within { header ≤ length cells.old.items }
     requires small { length cells.old.items ≤ 32767 }
-    requires halves {
-        caller_base + slice_index cells.old.items (caller + 2) + slice_index cells.old.items (caller + 3) ≤ caller
-    }
+    requires halves { caller_base + slice_index cells.old.items (caller + 2) + slice_index cells.old.items (caller + 3) ≤ caller }
     requires ref_args { ref_args ≤ slice_index cells.old.items (caller + 2) }
     requires cell_args { cell_args ≤ slice_index cells.old.items (caller + 3) }
     ensures len { vec_len cells.new ≡ vec_len cells.old }
@@ -124,7 +122,15 @@ impl Region {
         if self.count > 0 {
             let caller = usize::from(self.youngest);
             let caller_base = caller - usize::from(self.bodies[usize::from(self.cells[caller])]);
-            hand_over(&mut self.cells, caller, caller_base, base, header, ref_args, cell_args);
+            hand_over(
+                &mut self.cells,
+                caller,
+                caller_base,
+                base,
+                header,
+                ref_args,
+                cell_args,
+            );
         }
         self.used = header as u16 + 4;
         self.count += 1;

@@ -1,11 +1,23 @@
+ghost use Rattle.std.specs.Prelude.{◌≡◌, [], ◌∷◌, IfOk};
+
 use crate::{Region, StackWanted};
-use std::process::Abort;
 use std::test::Fail;
 
-/// A region of 64 cells for methods with bodies of 0, 8 and 40 cells.
-fn region(rt: &HostRuntime) -> Result<Region, Fail> {
-    let bodies = [0, 8, 40].to_vec(rt.alloc())?;
-    Ok(Region::new(rt.alloc(), 64, bodies)?)
+/// A region of 64 cells for methods with bodies of 8 and of 6 cells, and a frame of the first with
+/// two references and two whole-number cells.
+fn one_frame(rt: &HostRuntime) -> Result<Region, Fail>
+    ensures { IfOk result (λ region. region ≡ record {
+      size = 64;
+      bodies = 8 ∷ 6 ∷ [];
+      frames = record { method = 0; pc = 0; body = 8; refs = 0 ∷ 0 ∷ []; cells = 0 ∷ 0 ∷ [] } ∷ [];
+    }) }
+{
+    let bodies = [8, 6].to_vec(rt.alloc())?;
+    let mut region = Region::new(rt.alloc(), 64, bodies)?;
+    match region.push_frame(0, 2, 2, 0, 0) {
+        Ok(()) => Ok(region),
+        Err(_) => unreachable!(),
+    }
 }
 
 #[test]
@@ -16,9 +28,53 @@ fn no_more_fields(rt: HostRuntime) -> Result<(), Fail> {
         used,
         count,
         youngest,
-    } = region(&rt)?;
+    } = one_frame(&rt)?;
     assert_eq!(rt; cells.len(), 64);
-    assert_eq!(rt; bodies.len(), 3);
-    assert_eq!(rt; [used, count, youngest].as_slice(), [0, 0, 0].as_slice());
+    assert_eq!(rt; bodies.len(), 2);
+    assert_eq!(rt; used, 12);
+    assert_eq!(rt; count, 1);
+    assert_eq!(rt; youngest, 8);
+    Ok(())
+}
+
+#[test]
+fn references_are_a_list(rt: HostRuntime) -> Result<(), Fail> {
+    let mut region = one_frame(&rt)?;
+    region.push_ref(7);
+    region.set_ref(0, 9);
+    assert_eq!(rt; region.ref_at(0), 9);
+    assert_eq!(rt; region.ref_depth(), 3);
+    assert_eq!(rt; region.pop_ref(), 7);
+    Ok(())
+}
+
+#[test]
+fn whole_number_cells_are_a_list(rt: HostRuntime) -> Result<(), Fail> {
+    let mut region = one_frame(&rt)?;
+    region.push_cell(7);
+    region.set_int(0, 9);
+    assert_eq!(rt; region.int_at(0), 9);
+    assert_eq!(rt; region.cell_depth(), 3);
+    assert_eq!(rt; region.pop_cell(), 7);
+    Ok(())
+}
+
+#[test]
+fn a_call_takes_its_arguments(rt: HostRuntime) -> Result<(), Fail> {
+    let mut region = one_frame(&rt)?;
+    region.set_pc(5);
+    region.set_ref(1, 7);
+    region.set_int(1, 9);
+    let called = region.push_frame(1, 2, 2, 1, 1);
+    assert_eq!(rt; called, Ok(()));
+    assert_eq!(rt; region.frame_count(), 2);
+    assert_eq!(rt; region.used(), 22);
+    assert_eq!(rt; region.method_at(0), 1);
+    assert_eq!(rt; region.pc_at(1), 5);
+    assert_eq!(rt; region.ref_at(0), 7);
+    assert_eq!(rt; region.int_at(0), 9);
+    region.pop_frame();
+    assert_eq!(rt; region.ref_depth(), 1);
+    assert_eq!(rt; region.cell_depth(), 1);
     Ok(())
 }

@@ -18,7 +18,7 @@ laid old mid base header method refs nums order within below zeros =
     let long_two : length two ≡ length one = length-set one (header + 1) 0 in
     let long_three : length three ≡ length two = length-set two (header + 2) refs in
     let low : (k : ℕ) → k < header → get_or four k 0 ≡ get_or mid k 0 = λ k h.
-      other_than three (header + 3) nums k (omega arith) ∙ (other_than two (header + 2) refs k (omega arith) ∙ (other_than one (header + 1) 0 k (omega arith) ∙ other_than mid header method k (omega arith))) in
+    other_than three (header + 3) nums k (omega arith) ∙ (other_than two (header + 2) refs k (omega arith) ∙ (other_than one (header + 1) 0 k (omega arith) ∙ other_than mid header method k (omega arith))) in
     record {
       below = λ k h. low k (omega arith) ∙ below k h;
       zeros = λ k h g. low k g ∙ zeros k h g;

@@ -46,10 +46,10 @@ invariant_of-self c =
     let d = c.from-2.ensures in
     (let shuffled = without_item_shuffles c.args.depth (youngest_frame c.args.self.now).cells c.requires in
     cells_shuffled c.self.inside (record c.self.inside { cells = with_item c.copy_within.new.self (c.from-header.result + 3) (c.index-count.result.now - 1) }) c.args.self.now (without_item c.args.depth (youngest_frame c.args.self.now).cells) c.args.depth 1 (length (youngest_frame c.args.self.now).cells - 1) c.self.invariant s (record { bodies = refl; used = refl; count = refl; youngest = refl; len = c.copy_within.ensures.len }) shuffled.0 shuffled.1 (omega arith)
-      (drop_down c.self.inside (record c.self.inside { cells = with_item c.copy_within.new.self (c.from-header.result + 3) (c.index-count.result.now - 1) }) c.args.self.now c.copy_within.new.self.items c.args.depth (length (youngest_frame c.args.self.now).cells - 1)
-        (c.from-header.result - c.from.result) ((c.from-header.result - c.from.result) + 1) ((c.from-header.result - c.from.result) + c.from-2.result - (c.from-header.result - c.from.result)) (c.from-header.result + 3) (c.index-count.result.now - 1) s
-        (omega arith) (omega arith) (omega arith) (omega arith) (omega arith)
-        c.copy_within.ensures.by_index (sym c.copy_within.new.self.ok.0 ∙ (c.copy_within.ensures.len ∙ c.self.inside.cells.ok.0)) (omega arith) (omega arith) refl)).1
+    (drop_down c.self.inside (record c.self.inside { cells = with_item c.copy_within.new.self (c.from-header.result + 3) (c.index-count.result.now - 1) }) c.args.self.now c.copy_within.new.self.items c.args.depth (length (youngest_frame c.args.self.now).cells - 1)
+    (c.from-header.result - c.from.result) ((c.from-header.result - c.from.result) + 1) ((c.from-header.result - c.from.result) + c.from-2.result - (c.from-header.result - c.from.result)) (c.from-header.result + 3) (c.index-count.result.now - 1) s
+    (omega arith) (omega arith) (omega arith) (omega arith) (omega arith)
+    c.copy_within.ensures.by_index (sym c.copy_within.new.self.ok.0 ∙ (c.copy_within.ensures.len ∙ c.self.inside.cells.ok.0)) (omega arith) (omega arith) refl)).1
 
 pub returns : goal.returns
 returns c =
@@ -70,7 +70,7 @@ returns c =
     let d = c.from-2.ensures in
     (let shuffled = without_item_shuffles c.args.depth (youngest_frame c.args.self.now).cells c.requires in
     cells_shuffled c.self.inside (record c.self.inside { cells = with_item c.copy_within.new.self (c.from-header.result + 3) (c.index-count.result.now - 1) }) c.args.self.now (without_item c.args.depth (youngest_frame c.args.self.now).cells) c.args.depth 1 (length (youngest_frame c.args.self.now).cells - 1) c.self.invariant s (record { bodies = refl; used = refl; count = refl; youngest = refl; len = c.copy_within.ensures.len }) shuffled.0 shuffled.1 (omega arith)
-      (drop_down c.self.inside (record c.self.inside { cells = with_item c.copy_within.new.self (c.from-header.result + 3) (c.index-count.result.now - 1) }) c.args.self.now c.copy_within.new.self.items c.args.depth (length (youngest_frame c.args.self.now).cells - 1)
-        (c.from-header.result - c.from.result) ((c.from-header.result - c.from.result) + 1) ((c.from-header.result - c.from.result) + c.from-2.result - (c.from-header.result - c.from.result)) (c.from-header.result + 3) (c.index-count.result.now - 1) s
-        (omega arith) (omega arith) (omega arith) (omega arith) (omega arith)
-        c.copy_within.ensures.by_index (sym c.copy_within.new.self.ok.0 ∙ (c.copy_within.ensures.len ∙ c.self.inside.cells.ok.0)) (omega arith) (omega arith) refl)).0
+    (drop_down c.self.inside (record c.self.inside { cells = with_item c.copy_within.new.self (c.from-header.result + 3) (c.index-count.result.now - 1) }) c.args.self.now c.copy_within.new.self.items c.args.depth (length (youngest_frame c.args.self.now).cells - 1)
+    (c.from-header.result - c.from.result) ((c.from-header.result - c.from.result) + 1) ((c.from-header.result - c.from.result) + c.from-2.result - (c.from-header.result - c.from.result)) (c.from-header.result + 3) (c.index-count.result.now - 1) s
+    (omega arith) (omega arith) (omega arith) (omega arith) (omega arith)
+    c.copy_within.ensures.by_index (sym c.copy_within.new.self.ok.0 ∙ (c.copy_within.ensures.len ∙ c.self.inside.cells.ok.0)) (omega arith) (omega arith) refl)).0

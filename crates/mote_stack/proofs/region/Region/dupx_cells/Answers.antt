@@ -103,10 +103,10 @@ invariant_of-self c =
     let m4 = c.from-6.ensures in
     (let shuffled = duplicated_shuffles c.args.m c.args.n (youngest_frame c.args.self.now).cells c.requires.there in
     cells_shuffled c.self.inside (record c.self.inside { cells = with_item c.copy_within-2.new.self (c.from-header.result + 3) (c.index-depth.result.now + c.args.m) }) c.args.self.now (duplicated c.args.m c.args.n (youngest_frame c.args.self.now).cells) c.args.m c.args.n (length (youngest_frame c.args.self.now).cells + c.args.m) c.self.invariant s (record { bodies = refl; used = refl; count = refl; youngest = refl; len = c.copy_within-2.ensures.len ∙ c.copy_within.ensures.len }) shuffled.0 shuffled.1 (omega arith)
-      (dup_down c.self.inside (record c.self.inside { cells = with_item c.copy_within-2.new.self (c.from-header.result + 3) (c.index-depth.result.now + c.args.m) }) c.args.self.now c.copy_within.new.self.items c.copy_within-2.new.self.items c.args.m c.args.n (length (youngest_frame c.args.self.now).cells + c.args.m)
-        (c.from-header.result - c.from.result) ((c.from-header.result - c.from.result) - c.from-4.result) (((c.from-header.result - c.from.result) + c.from-2.result + c.from-3.result) - (c.from-header.result - c.from.result)) ((c.from-header.result - c.from.result) - c.from-5.result) (((c.from-header.result - c.from.result) + c.from-2.result + c.from-3.result) - c.from-6.result) ((c.from-header.result - c.from.result) - ((c.from-header.result - c.from.result) - c.from-5.result)) (c.from-header.result + 3) (c.index-depth.result.now + c.args.m) s
-        (omega arith) (omega arith) (omega arith) (omega arith) (omega arith) (omega arith) (omega arith) (omega arith) (omega arith)
-        c.copy_within.ensures.by_index c.copy_within-2.ensures.by_index (sym c.copy_within-2.new.self.ok.0 ∙ (c.copy_within-2.ensures.len ∙ (c.copy_within.ensures.len ∙ c.self.inside.cells.ok.0))) (omega arith) (omega arith) refl)).1
+    (dup_down c.self.inside (record c.self.inside { cells = with_item c.copy_within-2.new.self (c.from-header.result + 3) (c.index-depth.result.now + c.args.m) }) c.args.self.now c.copy_within.new.self.items c.copy_within-2.new.self.items c.args.m c.args.n (length (youngest_frame c.args.self.now).cells + c.args.m)
+    (c.from-header.result - c.from.result) ((c.from-header.result - c.from.result) - c.from-4.result) (((c.from-header.result - c.from.result) + c.from-2.result + c.from-3.result) - (c.from-header.result - c.from.result)) ((c.from-header.result - c.from.result) - c.from-5.result) (((c.from-header.result - c.from.result) + c.from-2.result + c.from-3.result) - c.from-6.result) ((c.from-header.result - c.from.result) - ((c.from-header.result - c.from.result) - c.from-5.result)) (c.from-header.result + 3) (c.index-depth.result.now + c.args.m) s
+    (omega arith) (omega arith) (omega arith) (omega arith) (omega arith) (omega arith) (omega arith) (omega arith) (omega arith)
+    c.copy_within.ensures.by_index c.copy_within-2.ensures.by_index (sym c.copy_within-2.new.self.ok.0 ∙ (c.copy_within-2.ensures.len ∙ (c.copy_within.ensures.len ∙ c.self.inside.cells.ok.0))) (omega arith) (omega arith) refl)).1
 
 pub returns : goal.returns
 returns c =
@@ -132,7 +132,7 @@ returns c =
     let m4 = c.from-6.ensures in
     (let shuffled = duplicated_shuffles c.args.m c.args.n (youngest_frame c.args.self.now).cells c.requires.there in
     cells_shuffled c.self.inside (record c.self.inside { cells = with_item c.copy_within-2.new.self (c.from-header.result + 3) (c.index-depth.result.now + c.args.m) }) c.args.self.now (duplicated c.args.m c.args.n (youngest_frame c.args.self.now).cells) c.args.m c.args.n (length (youngest_frame c.args.self.now).cells + c.args.m) c.self.invariant s (record { bodies = refl; used = refl; count = refl; youngest = refl; len = c.copy_within-2.ensures.len ∙ c.copy_within.ensures.len }) shuffled.0 shuffled.1 (omega arith)
-      (dup_down c.self.inside (record c.self.inside { cells = with_item c.copy_within-2.new.self (c.from-header.result + 3) (c.index-depth.result.now + c.args.m) }) c.args.self.now c.copy_within.new.self.items c.copy_within-2.new.self.items c.args.m c.args.n (length (youngest_frame c.args.self.now).cells + c.args.m)
-        (c.from-header.result - c.from.result) ((c.from-header.result - c.from.result) - c.from-4.result) (((c.from-header.result - c.from.result) + c.from-2.result + c.from-3.result) - (c.from-header.result - c.from.result)) ((c.from-header.result - c.from.result) - c.from-5.result) (((c.from-header.result - c.from.result) + c.from-2.result + c.from-3.result) - c.from-6.result) ((c.from-header.result - c.from.result) - ((c.from-header.result - c.from.result) - c.from-5.result)) (c.from-header.result + 3) (c.index-depth.result.now + c.args.m) s
-        (omega arith) (omega arith) (omega arith) (omega arith) (omega arith) (omega arith) (omega arith) (omega arith) (omega arith)
-        c.copy_within.ensures.by_index c.copy_within-2.ensures.by_index (sym c.copy_within-2.new.self.ok.0 ∙ (c.copy_within-2.ensures.len ∙ (c.copy_within.ensures.len ∙ c.self.inside.cells.ok.0))) (omega arith) (omega arith) refl)).0
+    (dup_down c.self.inside (record c.self.inside { cells = with_item c.copy_within-2.new.self (c.from-header.result + 3) (c.index-depth.result.now + c.args.m) }) c.args.self.now c.copy_within.new.self.items c.copy_within-2.new.self.items c.args.m c.args.n (length (youngest_frame c.args.self.now).cells + c.args.m)
+    (c.from-header.result - c.from.result) ((c.from-header.result - c.from.result) - c.from-4.result) (((c.from-header.result - c.from.result) + c.from-2.result + c.from-3.result) - (c.from-header.result - c.from.result)) ((c.from-header.result - c.from.result) - c.from-5.result) (((c.from-header.result - c.from.result) + c.from-2.result + c.from-3.result) - c.from-6.result) ((c.from-header.result - c.from.result) - ((c.from-header.result - c.from.result) - c.from-5.result)) (c.from-header.result + 3) (c.index-depth.result.now + c.args.m) s
+    (omega arith) (omega arith) (omega arith) (omega arith) (omega arith) (omega arith) (omega arith) (omega arith) (omega arith)
+    c.copy_within.ensures.by_index c.copy_within-2.ensures.by_index (sym c.copy_within-2.new.self.ok.0 ∙ (c.copy_within-2.ensures.len ∙ (c.copy_within.ensures.len ∙ c.self.inside.cells.ok.0))) (omega arith) (omega arith) refl)).0

@@ -110,10 +110,10 @@ invariant_of-self c =
     let m3 = c.from-7.ensures in
     (let shuffled = duplicated_shuffles c.args.m c.args.n (youngest_frame c.args.self.now).refs c.requires.there in
     refs_shuffled c.self.inside (record c.self.inside { cells = with_item c.copy_within-2.new.self (c.from-header.result + 2) (c.index-depth.result.now + c.args.m) }) c.args.self.now (duplicated c.args.m c.args.n (youngest_frame c.args.self.now).refs) c.args.m c.args.n (length (youngest_frame c.args.self.now).refs + c.args.m) c.self.invariant s (record { bodies = refl; used = refl; count = refl; youngest = refl; len = c.copy_within-2.ensures.len ∙ c.copy_within.ensures.len }) shuffled.0 shuffled.1 (omega arith)
-      (dup_up c.self.inside (record c.self.inside { cells = with_item c.copy_within-2.new.self (c.from-header.result + 2) (c.index-depth.result.now + c.args.m) }) c.args.self.now c.copy_within.new.self.items c.copy_within-2.new.self.items c.args.m c.args.n (length (youngest_frame c.args.self.now).refs + c.args.m)
-        (c.from-header.result - c.from-2.result + c.from-3.result - c.from-4.result - c.from-5.result) ((c.from-header.result - c.from-2.result + c.from-3.result - c.from-4.result - c.from-5.result) + c.from-6.result) ((c.from-header.result - c.from-2.result + c.from-3.result) - (c.from-header.result - c.from-2.result + c.from-3.result - c.from-4.result - c.from-5.result)) (c.from-header.result - c.from-2.result + c.from-3.result) (c.from-header.result - c.from-2.result + c.from-3.result - c.from-4.result - c.from-5.result) ((c.from-header.result - c.from-2.result + c.from-3.result) + c.from-7.result - (c.from-header.result - c.from-2.result + c.from-3.result)) (c.from-header.result + 2) (c.index-depth.result.now + c.args.m) s
-        (omega arith) (omega arith) (omega arith) (omega arith) (omega arith) (omega arith) (omega arith) (omega arith) (omega arith)
-        c.copy_within.ensures.by_index c.copy_within-2.ensures.by_index (sym c.copy_within-2.new.self.ok.0 ∙ (c.copy_within-2.ensures.len ∙ (c.copy_within.ensures.len ∙ c.self.inside.cells.ok.0))) (omega arith) (omega arith) refl)).1
+    (dup_up c.self.inside (record c.self.inside { cells = with_item c.copy_within-2.new.self (c.from-header.result + 2) (c.index-depth.result.now + c.args.m) }) c.args.self.now c.copy_within.new.self.items c.copy_within-2.new.self.items c.args.m c.args.n (length (youngest_frame c.args.self.now).refs + c.args.m)
+    (c.from-header.result - c.from-2.result + c.from-3.result - c.from-4.result - c.from-5.result) ((c.from-header.result - c.from-2.result + c.from-3.result - c.from-4.result - c.from-5.result) + c.from-6.result) ((c.from-header.result - c.from-2.result + c.from-3.result) - (c.from-header.result - c.from-2.result + c.from-3.result - c.from-4.result - c.from-5.result)) (c.from-header.result - c.from-2.result + c.from-3.result) (c.from-header.result - c.from-2.result + c.from-3.result - c.from-4.result - c.from-5.result) ((c.from-header.result - c.from-2.result + c.from-3.result) + c.from-7.result - (c.from-header.result - c.from-2.result + c.from-3.result)) (c.from-header.result + 2) (c.index-depth.result.now + c.args.m) s
+    (omega arith) (omega arith) (omega arith) (omega arith) (omega arith) (omega arith) (omega arith) (omega arith) (omega arith)
+    c.copy_within.ensures.by_index c.copy_within-2.ensures.by_index (sym c.copy_within-2.new.self.ok.0 ∙ (c.copy_within-2.ensures.len ∙ (c.copy_within.ensures.len ∙ c.self.inside.cells.ok.0))) (omega arith) (omega arith) refl)).1
 
 pub returns : goal.returns
 returns c =
@@ -140,7 +140,7 @@ returns c =
     let m3 = c.from-7.ensures in
     (let shuffled = duplicated_shuffles c.args.m c.args.n (youngest_frame c.args.self.now).refs c.requires.there in
     refs_shuffled c.self.inside (record c.self.inside { cells = with_item c.copy_within-2.new.self (c.from-header.result + 2) (c.index-depth.result.now + c.args.m) }) c.args.self.now (duplicated c.args.m c.args.n (youngest_frame c.args.self.now).refs) c.args.m c.args.n (length (youngest_frame c.args.self.now).refs + c.args.m) c.self.invariant s (record { bodies = refl; used = refl; count = refl; youngest = refl; len = c.copy_within-2.ensures.len ∙ c.copy_within.ensures.len }) shuffled.0 shuffled.1 (omega arith)
-      (dup_up c.self.inside (record c.self.inside { cells = with_item c.copy_within-2.new.self (c.from-header.result + 2) (c.index-depth.result.now + c.args.m) }) c.args.self.now c.copy_within.new.self.items c.copy_within-2.new.self.items c.args.m c.args.n (length (youngest_frame c.args.self.now).refs + c.args.m)
-        (c.from-header.result - c.from-2.result + c.from-3.result - c.from-4.result - c.from-5.result) ((c.from-header.result - c.from-2.result + c.from-3.result - c.from-4.result - c.from-5.result) + c.from-6.result) ((c.from-header.result - c.from-2.result + c.from-3.result) - (c.from-header.result - c.from-2.result + c.from-3.result - c.from-4.result - c.from-5.result)) (c.from-header.result - c.from-2.result + c.from-3.result) (c.from-header.result - c.from-2.result + c.from-3.result - c.from-4.result - c.from-5.result) ((c.from-header.result - c.from-2.result + c.from-3.result) + c.from-7.result - (c.from-header.result - c.from-2.result + c.from-3.result)) (c.from-header.result + 2) (c.index-depth.result.now + c.args.m) s
-        (omega arith) (omega arith) (omega arith) (omega arith) (omega arith) (omega arith) (omega arith) (omega arith) (omega arith)
-        c.copy_within.ensures.by_index c.copy_within-2.ensures.by_index (sym c.copy_within-2.new.self.ok.0 ∙ (c.copy_within-2.ensures.len ∙ (c.copy_within.ensures.len ∙ c.self.inside.cells.ok.0))) (omega arith) (omega arith) refl)).0
+    (dup_up c.self.inside (record c.self.inside { cells = with_item c.copy_within-2.new.self (c.from-header.result + 2) (c.index-depth.result.now + c.args.m) }) c.args.self.now c.copy_within.new.self.items c.copy_within-2.new.self.items c.args.m c.args.n (length (youngest_frame c.args.self.now).refs + c.args.m)
+    (c.from-header.result - c.from-2.result + c.from-3.result - c.from-4.result - c.from-5.result) ((c.from-header.result - c.from-2.result + c.from-3.result - c.from-4.result - c.from-5.result) + c.from-6.result) ((c.from-header.result - c.from-2.result + c.from-3.result) - (c.from-header.result - c.from-2.result + c.from-3.result - c.from-4.result - c.from-5.result)) (c.from-header.result - c.from-2.result + c.from-3.result) (c.from-header.result - c.from-2.result + c.from-3.result - c.from-4.result - c.from-5.result) ((c.from-header.result - c.from-2.result + c.from-3.result) + c.from-7.result - (c.from-header.result - c.from-2.result + c.from-3.result)) (c.from-header.result + 2) (c.index-depth.result.now + c.args.m) s
+    (omega arith) (omega arith) (omega arith) (omega arith) (omega arith) (omega arith) (omega arith) (omega arith) (omega arith)
+    c.copy_within.ensures.by_index c.copy_within-2.ensures.by_index (sym c.copy_within-2.new.self.ok.0 ∙ (c.copy_within-2.ensures.len ∙ (c.copy_within.ensures.len ∙ c.self.inside.cells.ok.0))) (omega arith) (omega arith) refl)).0

@@ -19,4 +19,4 @@ returns c =
     let n = c.from-2.ensures in
     let at : c.from.result - 1 - c.from-2.result ≡ c.self.inside.youngest - 1 - c.args.n = omega arith in
     get_or_read c.self.inside.cells.items (c.from.result - 1 - c.from-2.result) c.index.result.now (omega arith) c.index.ensures 0
-      ∙ (ap (λ k. get_or c.self.inside.cells.items k 0) at ∙ sym (s.cells_at c.args.n (omega arith)))
+    ∙ (ap (λ k. get_or c.self.inside.cells.items k 0) at ∙ sym (s.cells_at c.args.n (omega arith)))

@@ -41,6 +41,6 @@ returns c =
     let there : get_or (drop c.args.k all) 0 no_frame ≡ get_or all (c.args.k + 0) no_frame = get_or-drop c.args.k all 0 no_frame in
     let index : c.args.k + 0 ≡ c.args.k = omega arith in
     let nth : nth_frame c.args.self.now c.args.k ≡ frame_at bodies cells (end - 4) =
-      sym (ap (λ (s : Stack). nth_frame s c.args.k) c.self.view_is) ∙ (sym (ap (λ i. get_or all i no_frame) index) ∙ (sym there ∙ here)) in
+    sym (ap (λ (s : Stack). nth_frame s c.args.k) c.self.view_is) ∙ (sym (ap (λ i. get_or all i no_frame) index) ∙ (sym there ∙ here)) in
     get_or_read cells (c.from.result - 4) c.index.result.now (omega arith) c.index.ensures 0
-      ∙ (ap (λ i. get_or cells i 0) at ∙ sym (ap (λ (f : Frame). f.method) nth))
+    ∙ (ap (λ i. get_or cells i 0) at ∙ sym (ap (λ (f : Frame). f.method) nth))

@@ -21,7 +21,7 @@ returns-clause-value c =
     let depth_as = c.from.ensures in
     let at : c.from-header.result - 1 - c.from.result ≡ c.self.inside.youngest - 1 - (length (youngest_frame c.args.self.now).cells - 1) = omega arith in
     get_or_read c.self.inside.cells.items (c.from-header.result - 1 - c.from.result) c.index-v.result.now (omega arith) c.index-v.ensures 0
-      ∙ (ap (λ k. get_or c.self.inside.cells.items k 0) at ∙ sym (s.cells_at (length (youngest_frame c.args.self.now).cells - 1) (omega arith)))
+    ∙ (ap (λ k. get_or c.self.inside.cells.items k 0) at ∙ sym (s.cells_at (length (youngest_frame c.args.self.now).cells - 1) (omega arith)))
 
 pub invariant_of-self : goal.invariant_of-self
 invariant_of-self c =

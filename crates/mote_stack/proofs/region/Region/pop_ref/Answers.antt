@@ -32,7 +32,7 @@ returns-clause-value c =
     let depth_as = c.from-3.ensures in
     let at : c.from-header.result - c.from-2.result + c.from-3.result ≡ base_of c.self.inside.bodies.items c.self.inside.cells.items c.self.inside.youngest + (length (youngest_frame c.args.self.now).refs - 1) = omega arith in
     get_or_read c.self.inside.cells.items (c.from-header.result - c.from-2.result + c.from-3.result) c.index-v.result.now (omega arith) c.index-v.ensures 0
-      ∙ (ap (λ k. get_or c.self.inside.cells.items k 0) at ∙ sym (s.refs_at (length (youngest_frame c.args.self.now).refs - 1) (omega arith)))
+    ∙ (ap (λ k. get_or c.self.inside.cells.items k 0) at ∙ sym (s.refs_at (length (youngest_frame c.args.self.now).refs - 1) (omega arith)))
 
 pub invariant_of-self : goal.invariant_of-self
 invariant_of-self c =

@@ -223,8 +223,8 @@ overflow_add-self-2 c =
     let Lays : ℕ → Type 0 = λ b. LaysFrame i.cells.items laid b header c.args.method c.args.ref_locals c.args.cell_locals in
     let P : Inside → Type 0 = λ j. Called i j stack header c.args.method c.args.ref_locals c.args.cell_locals c.args.ref_args c.args.cell_args in
     let called : P c.if-self-gt0.self-inside =
-      elim c.if-self-gt0.branch [
-        then-self-gt0 w ↦
+    elim c.if-self-gt0.branch [
+      | then-self-gt0 w ↦
           let s = seen i stack c.self.view_is c.self.invariant (omega (arith, count_of i stack c.self.view_is, w.if-self-gt0.true)) in
           let last = s.last in
           let body_below = s.body_below in
@@ -261,7 +261,7 @@ overflow_add-self-2 c =
             long = laid_long;
           } in
           subst P (sym w.self-inside-is) after
-      ] in
+    ] in
     let count = called.count in
     let few = few_frames i.bodies.items i.cells.items i.count i.used c.self.invariant.in_frames in
     let within = c.self.invariant.within in
@@ -290,8 +290,8 @@ invariant_of-self c =
     let Lays : ℕ → Type 0 = λ b. LaysFrame i.cells.items laid b header c.args.method c.args.ref_locals c.args.cell_locals in
     let P : Inside → Type 0 = λ j. Called i j stack header c.args.method c.args.ref_locals c.args.cell_locals c.args.ref_args c.args.cell_args in
     let called : P c.if-self-gt0.self-inside =
-      elim c.if-self-gt0.branch [
-        then-self-gt0 w ↦
+    elim c.if-self-gt0.branch [
+      | then-self-gt0 w ↦
           let s = seen i stack c.self.view_is c.self.invariant (omega (arith, count_of i stack c.self.view_is, w.if-self-gt0.true)) in
           let last = s.last in
           let body_below = s.body_below in
@@ -328,7 +328,7 @@ invariant_of-self c =
             long = laid_long;
           } in
           subst P (sym w.self-inside-is) after
-      ] in
+    ] in
     let used = called.used in
     let count = called.count in
     let long = called.long in
@@ -357,8 +357,8 @@ returns c =
     let Lays : ℕ → Type 0 = λ b. LaysFrame i.cells.items laid b header c.args.method c.args.ref_locals c.args.cell_locals in
     let P : Inside → Type 0 = λ j. Called i j stack header c.args.method c.args.ref_locals c.args.cell_locals c.args.ref_args c.args.cell_args in
     let called : P c.if-self-gt0.self-inside =
-      elim c.if-self-gt0.branch [
-        then-self-gt0 w ↦
+    elim c.if-self-gt0.branch [
+      | then-self-gt0 w ↦
           let s = seen i stack c.self.view_is c.self.invariant (omega (arith, count_of i stack c.self.view_is, w.if-self-gt0.true)) in
           let last = s.last in
           let body_below = s.body_below in
@@ -395,7 +395,7 @@ returns c =
             long = laid_long;
           } in
           subst P (sym w.self-inside-is) after
-      ] in
+    ] in
     let used = called.used in
     let count = called.count in
     let long = called.long in

@@ -15,6 +15,6 @@ returns c =
     let below = c.position_of.ensures.within in
     let same = ap (λ (s : Stack). length (roots_of s)) c.self.view_is in
     get_or_read i.cells.items c.position_of.result c.index.result.now (omega arith) c.index.ensures 0
-      ∙ (ap (λ k. get_or i.cells.items k 0) c.position_of.ensures.value
-        ∙ (root_read i.bodies.items i.cells.items i.count i.used c.args.k is.within is.in_frames (omega arith)
-          ∙ ap (λ (s : Stack). get_or (roots_of s) c.args.k 0) c.self.view_is))
+    ∙ (ap (λ k. get_or i.cells.items k 0) c.position_of.ensures.value
+    ∙ (root_read i.bodies.items i.cells.items i.count i.used c.args.k is.within is.in_frames (omega arith)
+    ∙ ap (λ (s : Stack). get_or (roots_of s) c.args.k 0) c.self.view_is))

@@ -29,9 +29,9 @@ invariant_of-self c =
     let m2 = c.from-4.ensures in
     (let shuffled = exchanged_shuffles c.args.m c.args.n (youngest_frame c.args.self.now).cells c.requires.there in
     cells_shuffled c.self.inside (record c.self.inside { cells = c.rotate.new.cells }) c.args.self.now (exchanged c.args.m c.args.n (youngest_frame c.args.self.now).cells) c.args.m c.args.n (length (youngest_frame c.args.self.now).cells) c.self.invariant s (record { bodies = refl; used = refl; count = refl; youngest = refl; len = c.rotate.ensures.len }) shuffled.0 shuffled.1 (omega arith)
-      (swap_down c.self.inside (record c.self.inside { cells = c.rotate.new.cells }) c.args.self.now c.args.m c.args.n (length (youngest_frame c.args.self.now).cells)
-        (c.from-header.result - c.from.result) ((c.from-header.result - c.from.result) + c.from-2.result + c.from-3.result) c.from-4.result s
-        (omega arith) (omega arith) (omega arith) (omega arith) (omega arith) c.rotate.ensures.rotated)).1
+    (swap_down c.self.inside (record c.self.inside { cells = c.rotate.new.cells }) c.args.self.now c.args.m c.args.n (length (youngest_frame c.args.self.now).cells)
+    (c.from-header.result - c.from.result) ((c.from-header.result - c.from.result) + c.from-2.result + c.from-3.result) c.from-4.result s
+    (omega arith) (omega arith) (omega arith) (omega arith) (omega arith) c.rotate.ensures.rotated)).1
 
 pub returns : goal.returns
 returns c =
@@ -54,6 +54,6 @@ returns c =
     let m2 = c.from-4.ensures in
     (let shuffled = exchanged_shuffles c.args.m c.args.n (youngest_frame c.args.self.now).cells c.requires.there in
     cells_shuffled c.self.inside (record c.self.inside { cells = c.rotate.new.cells }) c.args.self.now (exchanged c.args.m c.args.n (youngest_frame c.args.self.now).cells) c.args.m c.args.n (length (youngest_frame c.args.self.now).cells) c.self.invariant s (record { bodies = refl; used = refl; count = refl; youngest = refl; len = c.rotate.ensures.len }) shuffled.0 shuffled.1 (omega arith)
-      (swap_down c.self.inside (record c.self.inside { cells = c.rotate.new.cells }) c.args.self.now c.args.m c.args.n (length (youngest_frame c.args.self.now).cells)
-        (c.from-header.result - c.from.result) ((c.from-header.result - c.from.result) + c.from-2.result + c.from-3.result) c.from-4.result s
-        (omega arith) (omega arith) (omega arith) (omega arith) (omega arith) c.rotate.ensures.rotated)).0
+    (swap_down c.self.inside (record c.self.inside { cells = c.rotate.new.cells }) c.args.self.now c.args.m c.args.n (length (youngest_frame c.args.self.now).cells)
+    (c.from-header.result - c.from.result) ((c.from-header.result - c.from.result) + c.from-2.result + c.from-3.result) c.from-4.result s
+    (omega arith) (omega arith) (omega arith) (omega arith) (omega arith) c.rotate.ensures.rotated)).0

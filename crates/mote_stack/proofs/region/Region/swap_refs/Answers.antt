@@ -31,9 +31,9 @@ invariant_of-self c =
     let n2 = c.from-6.ensures in
     (let shuffled = exchanged_shuffles c.args.m c.args.n (youngest_frame c.args.self.now).refs c.requires.there in
     refs_shuffled c.self.inside (record c.self.inside { cells = c.rotate.new.cells }) c.args.self.now (exchanged c.args.m c.args.n (youngest_frame c.args.self.now).refs) c.args.m c.args.n (length (youngest_frame c.args.self.now).refs) c.self.invariant s (record { bodies = refl; used = refl; count = refl; youngest = refl; len = c.rotate.ensures.len }) shuffled.0 shuffled.1 (omega arith)
-      (swap_up c.self.inside (record c.self.inside { cells = c.rotate.new.cells }) c.args.self.now c.args.m c.args.n (length (youngest_frame c.args.self.now).refs)
-        ((c.from-header.result - c.from-2.result + c.from-3.result) - c.from-4.result - c.from-5.result) (c.from-header.result - c.from-2.result + c.from-3.result) c.from-6.result s
-        (omega arith) (omega arith) (omega arith) (omega arith) (omega arith) c.rotate.ensures.rotated)).1
+    (swap_up c.self.inside (record c.self.inside { cells = c.rotate.new.cells }) c.args.self.now c.args.m c.args.n (length (youngest_frame c.args.self.now).refs)
+    ((c.from-header.result - c.from-2.result + c.from-3.result) - c.from-4.result - c.from-5.result) (c.from-header.result - c.from-2.result + c.from-3.result) c.from-6.result s
+    (omega arith) (omega arith) (omega arith) (omega arith) (omega arith) c.rotate.ensures.rotated)).1
 
 pub returns : goal.returns
 returns c =
@@ -58,6 +58,6 @@ returns c =
     let n2 = c.from-6.ensures in
     (let shuffled = exchanged_shuffles c.args.m c.args.n (youngest_frame c.args.self.now).refs c.requires.there in
     refs_shuffled c.self.inside (record c.self.inside { cells = c.rotate.new.cells }) c.args.self.now (exchanged c.args.m c.args.n (youngest_frame c.args.self.now).refs) c.args.m c.args.n (length (youngest_frame c.args.self.now).refs) c.self.invariant s (record { bodies = refl; used = refl; count = refl; youngest = refl; len = c.rotate.ensures.len }) shuffled.0 shuffled.1 (omega arith)
-      (swap_up c.self.inside (record c.self.inside { cells = c.rotate.new.cells }) c.args.self.now c.args.m c.args.n (length (youngest_frame c.args.self.now).refs)
-        ((c.from-header.result - c.from-2.result + c.from-3.result) - c.from-4.result - c.from-5.result) (c.from-header.result - c.from-2.result + c.from-3.result) c.from-6.result s
-        (omega arith) (omega arith) (omega arith) (omega arith) (omega arith) c.rotate.ensures.rotated)).0
+    (swap_up c.self.inside (record c.self.inside { cells = c.rotate.new.cells }) c.args.self.now c.args.m c.args.n (length (youngest_frame c.args.self.now).refs)
+    ((c.from-header.result - c.from-2.result + c.from-3.result) - c.from-4.result - c.from-5.result) (c.from-header.result - c.from-2.result + c.from-3.result) c.from-6.result s
+    (omega arith) (omega arith) (omega arith) (omega arith) (omega arith) c.rotate.ensures.rotated)).0
