@@ -1,17 +1,17 @@
 -- Frames that come and go.
-use Rattle.std.proofs.Common.{◌≡◌, ◌≢◌, ◌⊎◌, inl, inr, ⊎_elim, ℕ, zero, suc, ◌+◌, ◌-◌, ◌<◌, ◌≤◌, List, [], ◌∷◌, ◌++◌, length, get_or, set, take, drop, replicate, refl, sym, ◌∙◌, ap, subst, arith, length-append, length-set, length-drop, get_or-set_other, get_or-set_same}
+use Rattle.std.proofs.Common.{◌≡◌, ◌≢◌, ⊎_elim, ℕ, zero, suc, ◌+◌, ◌-◌, ◌<◌, ◌≤◌, List, [], ◌∷◌, length, get_or, set, take, drop, replicate, refl, sym, ◌∙◌, ap, subst, arith, length-append, length-set, length-drop, get_or-set_other, get_or-set_same}
 use Rattle.std.specs.Vec.{with_item}
-use Rattle.std.proofs.lemmas.Bool.{cases_lt, cases_eq}
+use Rattle.std.proofs.lemmas.Bool.{cases_lt}
 use Rattle.std.proofs.lemmas.List.{length-take-le, get_or-take, get_or-drop, get_or-replicate, length-replicate, get_or_append_left, get_or-append_right}
 use Rattle.mote_stack.specs.Frames.{Frame, Stack, no_frame, youngest_frame, with_youngest, with_frame, without_frame, called_frame, calling_frame, locals_from, last_items, without_last}
 use Rattle.mote_stack.specs.Shuffles.{trimmed}
 use Rattle.mote_stack.specs.Moves.{LaysFrame, HandsOver}
-use Rattle.mote_stack.specs.Layout.{body_of, base_of, ref_depth_of, cell_depth_of, frame_at, frames_below, IsHeader, AreFrames, stack_of, IsRegion}
+use Rattle.mote_stack.specs.Layout.{body_of, base_of, frame_at, frames_below, IsHeader, AreFrames, stack_of, IsRegion}
 use Rattle.mote_stack.specs.declared.region.Region.TheInside.{Inside}
 use Rattle.std.proofs.lemmas.List.{get_or_read}
-use Rattle.mote_stack.specs.Frames.{cells_in_use, frame_need}
+use Rattle.mote_stack.specs.Frames.{cells_in_use}
 use Rattle.mote_stack.proofs.Youngest.{frame_is, frame_count_is, used_is}
-use Rattle.mote_stack.proofs.Changed.{Seen, seen, Writes, written, Becomes, KeepsFields}
+use Rattle.mote_stack.proofs.Changed.{Seen, seen, written, Becomes, KeepsFields}
 
 stacked : ℕ → List ℕ → List Frame → Stack
 stacked size bodies frames = record { size = size; bodies = bodies; frames = frames }

@@ -1,5 +1,5 @@
 -- The stack as the cells of the youngest frame change.
-use Rattle.std.proofs.Common.{◌≡◌, ℕ, zero, suc, ◌+◌, ◌-◌, ◌<◌, ◌≤◌, List, [], ◌∷◌, ◌++◌, length, get_or, take, drop, reverse, slice_range, slice_index, slice_set, refl, sym, ◌∙◌, ap, subst, arith}
+use Rattle.std.proofs.Common.{◌≡◌, ℕ, suc, ◌+◌, ◌-◌, ◌<◌, ◌≤◌, List, [], ◌∷◌, length, get_or, slice_set, refl, sym, ◌∙◌, ap, subst, arith}
 use Rattle.mote_stack.specs.Frames.{Frame, Stack, no_frame, youngest_frame, with_youngest, with_refs, with_cells}
 use Rattle.mote_stack.specs.Layout.{body_of, base_of, ref_depth_of, cell_depth_of, frame_at, frames_below, IsHeader, AreFrames, stack_of, IsRegion}
 use Rattle.mote_stack.specs.declared.region.Region.TheInside.{Inside}

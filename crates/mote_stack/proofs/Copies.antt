@@ -1,10 +1,9 @@
 -- Copies of cells within the memory, as shuffles of a half.
-use Rattle.std.proofs.Common.{◌≡◌, ◌≢◌, ◌⊎◌, inl, inr, ⊎_elim, ℕ, zero, suc, ◌+◌, ◌-◌, ◌<◌, ◌≤◌, List, [], ◌∷◌, ◌++◌, length, get_or, set, take, drop, refl, sym, ◌∙◌, ap, subst, arith, length-append, length-set, length-drop, length-take, get_or-set_other, get_or-set_same}
+use Rattle.std.proofs.Common.{◌≡◌, ◌≢◌, ℕ, ◌+◌, ◌-◌, ◌<◌, ◌≤◌, List, length, get_or, set, sym, ◌∙◌, ap, arith, length-set, get_or-set_other, get_or-set_same}
 use Rattle.std.specs.List.{CopiedTo, SameBelow, SameFrom}
-use Rattle.std.proofs.lemmas.Bool.{cases_lt}
-use Rattle.mote_stack.specs.Frames.{Frame, Stack, youngest_frame}
+use Rattle.mote_stack.specs.Frames.{Stack}
 use Rattle.mote_stack.specs.Moves.{Rotates, HandsOver}
-use Rattle.mote_stack.specs.Layout.{body_of, base_of, ref_depth_of, cell_depth_of, stack_of, IsRegion}
+use Rattle.mote_stack.specs.Layout.{body_of, base_of, ref_depth_of, cell_depth_of}
 use Rattle.mote_stack.specs.declared.region.Region.TheInside.{Inside}
 use Rattle.mote_stack.proofs.Changed.{Seen}
 use Rattle.mote_stack.proofs.Shuffled.{MovesUp, MovesDown}

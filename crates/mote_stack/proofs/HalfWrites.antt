@@ -1,13 +1,12 @@
 -- Writes to a header and to the halves of a body, as changes of the lists.
-use Rattle.std.proofs.Common.{◌≡◌, ◌≢◌, ◌⊎◌, inl, inr, ⊎_elim, ℕ, zero, suc, ◌+◌, ◌-◌, ◌<◌, ◌≤◌, List, [], ◌∷◌, ◌++◌, length, get_or, set, take, drop, reverse, slice_range, slice_index, slice_set, refl, sym, ◌∙◌, ap, subst, arith, length-append, length-set, get_or-set_other, get_or-set_same}
+use Rattle.std.proofs.Common.{◌≡◌, ◌≢◌, ◌⊎◌, inl, inr, ⊎_elim, ℕ, ◌+◌, ◌-◌, ◌<◌, ◌≤◌, List, [], ◌∷◌, ◌++◌, length, get_or, set, take, refl, sym, ◌∙◌, arith, length-append, length-set, get_or-set_other, get_or-set_same}
 use Rattle.std.specs.Vec.{with_item}
-use Rattle.std.proofs.lemmas.Grind.{common_steps, elements, get_or-set_at}
 use Rattle.std.proofs.lemmas.Bool.{cases_lt, cases_eq}
 use Rattle.std.proofs.lemmas.List.{length-take-le, get_or-take, get_or_append_left, get_or_push}
-use Rattle.mote_stack.specs.Frames.{Frame, Stack, no_frame, youngest_frame, with_youngest, with_refs, with_cells, HasFreeCells}
-use Rattle.mote_stack.specs.Layout.{body_of, base_of, ref_depth_of, cell_depth_of, frame_at, frames_below, IsHeader, AreFrames, stack_of, IsRegion}
+use Rattle.mote_stack.specs.Frames.{Stack, youngest_frame, with_youngest, with_refs, with_cells, HasFreeCells}
+use Rattle.mote_stack.specs.Layout.{base_of, ref_depth_of, cell_depth_of, IsRegion}
 use Rattle.mote_stack.specs.declared.region.Region.TheInside.{Inside}
-use Rattle.mote_stack.proofs.Changed.{Seen, seen, some_frame, Writes, written, Becomes, KeepsFields, WritesRefs, WritesCells, refs_written, cells_written}
+use Rattle.mote_stack.proofs.Changed.{Seen, written, Becomes, refs_written, cells_written}
 
 -- the fields after one write and after two writes
 abbrev pub put : Inside → ℕ → ℕ → Inside

@@ -7,3 +7,4 @@ pub mod Copies
 pub mod Walks
 pub mod RootCells
 pub mod Calls
+pub mod Filling

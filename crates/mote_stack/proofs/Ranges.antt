@@ -1,6 +1,6 @@
 -- Parts of a list of cells, read upwards and downwards.
-use Rattle.std.proofs.Common.{◌≡◌, ℕ, zero, suc, ◌+◌, ◌-◌, ◌<◌, ◌≤◌, List, [], ◌∷◌, ◌++◌, length, get_or, take, drop, reverse, slice_range, refl, sym, ◌∙◌, ap, subst, arith, length-append, length-drop, length-take}
-use Rattle.std.proofs.lemmas.List.{length-reverse, get_or-reverse, get_or-take, get_or-drop}
+use Rattle.std.proofs.Common.{◌≡◌, ℕ, ◌+◌, ◌-◌, ◌<◌, ◌≤◌, List, length, get_or, reverse, slice_range, sym, ◌∙◌, ap, arith}
+use Rattle.std.proofs.lemmas.List.{length-reverse, get_or-reverse}
 use Rattle.std.proofs.lemmas.List.Edits.{length-between, get_or-between}
 use Rattle.std.proofs.lemmas.Grind.{same_number_lists}
 

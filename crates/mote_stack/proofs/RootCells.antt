@@ -1,12 +1,11 @@
 -- The cells of the references of all frames.
-use Rattle.std.proofs.Common.{◌≡◌, ◌≢◌, ◌⊎◌, inl, inr, ⊎_elim, ℕ, zero, suc, ◌+◌, ◌-◌, ◌<◌, ◌≤◌, Bool, true, false, nat_lt, cond, if◌then◌else◌, List, [], ◌∷◌, ◌++◌, length, get_or, set, take, drop, refl, sym, ◌∙◌, ap, subst, arith, length-append, length-set, get_or-set_other, get_or-set_same}
+use Rattle.std.proofs.Common.{◌≡◌, ◌≢◌, ⊎_elim, ℕ, zero, suc, ◌+◌, ◌-◌, ◌<◌, ◌≤◌, Bool, if◌then◌else◌, List, ◌∷◌, ◌++◌, length, get_or, set, refl, sym, ◌∙◌, ap, subst, arith, length-append, length-set, get_or-set_other, get_or-set_same}
 use Rattle.std.proofs.lemmas.Bool.{cases_lt, cases_eq, lt-ltb, le-ltb}
 use Rattle.std.proofs.lemmas.List.{get_or_append_left, get_or-append_right}
-use Rattle.mote_stack.specs.Frames.{Frame, Stack, no_frame}
 use Rattle.mote_stack.specs.Roots.{refs_of, set_reference}
 use Rattle.mote_stack.specs.Layout.{body_of, base_of, ref_depth_of, cell_depth_of, frame_at, frames_below, IsHeader, AreFrames, root_position}
 use Rattle.mote_stack.proofs.Ranges.{length_up, length_down, get_up, get_down}
-use Rattle.mote_stack.proofs.Youngest.{AgreeBelow, frame_is, same_below}
+use Rattle.mote_stack.proofs.Youngest.{frame_is, same_below}
 
 -- which of its two values a reference's position has
 position_low : (bodies cells : List ℕ) (older top k : ℕ) → k < length (refs_of (frames_below bodies cells older (base_of bodies cells (top - 4)))) → root_position bodies cells (suc older) top k ≡ root_position bodies cells older (base_of bodies cells (top - 4)) k

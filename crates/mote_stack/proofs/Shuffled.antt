@@ -1,12 +1,12 @@
 -- Shuffles of the operands, as moves of cells and as changes of lists.
-use Rattle.std.proofs.Common.{◌≡◌, ◌≢◌, ◌⊎◌, inl, inr, ⊎_elim, ℕ, zero, suc, ◌+◌, ◌-◌, ◌<◌, ◌≤◌, List, [], ◌∷◌, ◌++◌, length, get_or, set, take, drop, refl, sym, ◌∙◌, ap, subst, arith, length-append, length-set, length-drop, length-take, get_or-set_other, get_or-set_same}
+use Rattle.std.proofs.Common.{◌≡◌, ◌≢◌, ⊎_elim, ℕ, ◌+◌, ◌-◌, ◌<◌, ◌≤◌, List, ◌++◌, length, get_or, refl, sym, ◌∙◌, ap, arith, length-append, length-drop}
 use Rattle.std.proofs.lemmas.Bool.{cases_lt}
 use Rattle.std.proofs.lemmas.List.{length-take-le, get_or-take, get_or-drop, get_or_append_left, get_or-append_right}
-use Rattle.mote_stack.specs.Frames.{Frame, Stack, youngest_frame, with_youngest, with_refs, with_cells, without_last, last_items}
+use Rattle.mote_stack.specs.Frames.{Stack, youngest_frame, with_refs, with_cells, without_last, last_items}
 use Rattle.mote_stack.specs.Shuffles.{duplicated, exchanged, without_item}
-use Rattle.mote_stack.specs.Layout.{body_of, base_of, ref_depth_of, cell_depth_of, stack_of, IsRegion}
+use Rattle.mote_stack.specs.Layout.{body_of, base_of, ref_depth_of, cell_depth_of, IsRegion}
 use Rattle.mote_stack.specs.declared.region.Region.TheInside.{Inside}
-use Rattle.mote_stack.proofs.Changed.{Seen, Becomes, KeepsFields, WritesRefs, WritesCells, refs_written, cells_written}
+use Rattle.mote_stack.proofs.Changed.{Seen, Becomes, KeepsFields, refs_written, cells_written}
 
 -- all but the last m + n items stay, the m last come next, and then those from m places below
 pub record Shuffled (items result : List ℕ) (m n : ℕ) : Type 0 where

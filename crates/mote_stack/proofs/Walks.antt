@@ -1,12 +1,12 @@
 -- Walks from the youngest frame to the oldest, a step a frame.
-use Rattle.std.proofs.Common.{◌≡◌, ◌≢◌, ◌⊎◌, inl, inr, ⊎_elim, ℕ, zero, suc, ◌+◌, ◌-◌, ◌<◌, ◌≤◌, Bool, true, false, nat_lt, cond, if◌then◌else◌, List, [], ◌∷◌, ◌++◌, length, get_or, set, take, drop, refl, sym, ◌∙◌, ap, subst, arith, length-append, length-set, get_or-set_other, get_or-set_same}
-use Rattle.std.proofs.lemmas.Bool.{cases_lt, cases_eq, lt-ltb, le-ltb}
-use Rattle.std.proofs.lemmas.List.{get_or_read, get_or-drop, drop-drop, get_or_append_left, get_or-append_right}
-use Rattle.mote_stack.specs.Frames.{Frame, Stack, no_frame}
-use Rattle.mote_stack.specs.Roots.{refs_of, set_reference}
-use Rattle.mote_stack.specs.Layout.{body_of, base_of, ref_depth_of, cell_depth_of, frame_at, frames_below, IsHeader, AreFrames, root_position}
-use Rattle.mote_stack.proofs.Ranges.{length_up, length_down, get_up, get_down}
-use Rattle.mote_stack.proofs.Youngest.{AgreeBelow, Opened, opened, frame_is, same_below}
+use Rattle.std.proofs.Common.{◌≡◌, ℕ, zero, suc, ◌+◌, ◌-◌, ◌<◌, ◌≤◌, Bool, true, false, nat_lt, if◌then◌else◌, List, ◌∷◌, ◌++◌, length, get_or, drop, refl, sym, ◌∙◌, ap, arith, length-append}
+use Rattle.std.proofs.lemmas.Bool.{lt-ltb, le-ltb}
+use Rattle.std.proofs.lemmas.List.{get_or_read, drop-drop}
+use Rattle.mote_stack.specs.Frames.{Frame}
+use Rattle.mote_stack.specs.Roots.{refs_of}
+use Rattle.mote_stack.specs.Layout.{body_of, base_of, ref_depth_of, frame_at, frames_below, AreFrames, root_position}
+use Rattle.mote_stack.proofs.Ranges.{length_up}
+use Rattle.mote_stack.proofs.Youngest.{Opened}
 
 -- what reads at a header give
 pub method_in : (bodies cells : List ℕ) (count top header at method index : ℕ) → Opened bodies cells count top header → header < length cells → at ≡ header → method ≡ get_or cells at method → index ≡ method → index < length bodies

@@ -1,8 +1,10 @@
 -- The youngest frame in the cells, and what stays of the others as its cells change.
-use Rattle.std.proofs.Common.{◌≡◌, ℕ, zero, suc, ◌+◌, ◌-◌, ◌<◌, ◌≤◌, List, [], ◌∷◌, ◌++◌, length, get_or, take, drop, reverse, slice_range, slice_index, refl, sym, ◌∙◌, ap, subst, arith}
+use Rattle.std.proofs.Common.{◌≡◌, ℕ, zero, suc, ◌+◌, ◌-◌, ◌<◌, ◌≤◌, List, ◌∷◌, length, get_or, reverse, slice_range, refl, sym, ◌∙◌, ap, subst, arith}
+use Rattle.std.specs.Prelude.{All}
+use Rattle.std.proofs.lemmas.List.Elements.{All-nil, All-cons}
 use Rattle.std.specs.List.{sum_by}
 use Rattle.std.proofs.lemmas.List.Sums.{sum_by-cons}
-use Rattle.mote_stack.specs.Frames.{Frame, Stack, cells_of}
+use Rattle.mote_stack.specs.Frames.{Frame, IsFrame, cells_of}
 use Rattle.mote_stack.specs.Layout.{body_of, base_of, ref_depth_of, cell_depth_of, frame_at, frames_below, IsHeader, AreFrames}
 use Rattle.mote_stack.proofs.Ranges.{read_up, read_down, length_up, length_down, get_up, get_down}
 
@@ -162,3 +164,17 @@ reopened bodies old new (suc older) used header within seen agree method fit =
     let third : Q (base_of bodies new header) = subst Q (sym base) second in
     let R : ℕ → Type 0 = λ h. (frame_at bodies new h ∷ frames_below bodies new older (base_of bodies new h) ≡ frame_at bodies new header ∷ frames_below bodies old (suc older - 1) (base_of bodies old header)) × ((4 ≤ used) × IsHeader bodies new h × AreFrames bodies new older (base_of bodies new h)) in
     subst R (sym at) (third.0, (omega arith, now, third.1))
+
+-- each frame is one of a method in the table, whose lists fit its body
+pub frames_fit : (bodies cells : List ℕ) (count top : ℕ) → top ≤ length cells → AreFrames bodies cells count top → All (IsFrame bodies) (frames_below bodies cells count top)
+frames_fit bodies cells zero top within are = All-nil (IsFrame bodies)
+frames_fit bodies cells (suc older) top within are =
+    let header = top - 4 in
+    let deep = are.0 in
+    let below = are.1.body_below in
+    let fit = are.1.lists_fit in
+    let up : length (frame_at bodies cells header).refs ≡ ref_depth_of cells header = length_up cells (base_of bodies cells header) (ref_depth_of cells header) (omega arith) in
+    let down : length (frame_at bodies cells header).cells ≡ cell_depth_of cells header = length_down cells header (cell_depth_of cells header) (omega arith) (omega arith) in
+    let here : IsFrame bodies (frame_at bodies cells header) = record { method_known = are.1.method_known; body_is = refl; lists_fit = omega arith } in
+    All-cons (IsFrame bodies) (frame_at bodies cells header) (frames_below bodies cells older (base_of bodies cells header)) here
+    (frames_fit bodies cells older (base_of bodies cells header) (omega arith) are.2)

@@ -1,5 +1,5 @@
 -- A stack of activation frames as lists.
-use Rattle.std.specs.Prelude.{ℕ, ◌+◌, ◌-◌, ◌<◌, ◌≤◌, List, [], ◌∷◌, ◌++◌, length, take, drop, replicate, slice_index, slice_set}
+use Rattle.std.specs.Prelude.{◌≡◌, All, ℕ, ◌+◌, ◌-◌, ◌<◌, ◌≤◌, List, [], ◌∷◌, ◌++◌, length, take, drop, replicate, slice_index, slice_set}
 use Rattle.std.specs.List.{slice_index_or, sum_by}
 
 -- a frame: its method, its pc, the cells of its body, and its two lists, locals first, then operands
@@ -94,3 +94,16 @@ with_frame stack method ref_locals cell_locals ref_args cell_args = record stack
 -- the stack without its youngest frame
 abbrev pub without_frame : Stack → Stack
 without_frame stack = record stack { frames = drop 1 stack.frames }
+
+-- a frame of a method in the table, whose lists fit its body
+pub record IsFrame (bodies : List ℕ) (frame : Frame) : Type 0 where
+  pub method_known : frame.method < length bodies
+  pub body_is : frame.body ≡ slice_index bodies frame.method
+  pub lists_fit : length frame.refs + length frame.cells ≤ frame.body
+
+-- what holds of each stack
+pub record IsStack (stack : Stack) : Type 0 where
+  pub size_large : 64 ≤ stack.size
+  pub size_small : stack.size ≤ 32767
+  pub within : cells_in_use stack ≤ stack.size
+  pub frames_fit : All (IsFrame stack.bodies) stack.frames

@@ -1,5 +1,5 @@
 -- What moves of cells leave in a memory, cell by cell.
-use Rattle.std.specs.Prelude.{◌≡◌, ◌≢◌, ℕ, ◌+◌, ◌-◌, ◌<◌, ◌≤◌, List, length, slice_index}
+use Rattle.std.specs.Prelude.{◌≡◌, ◌≢◌, ℕ, ◌+◌, ◌-◌, ◌<◌, ◌≤◌, List, slice_index}
 
 -- a header and a body of zeros were written from `base` on
 pub record LaysFrame (old new : List ℕ) (base header method ref_locals cell_locals : ℕ) : Type 0 where

@@ -1,5 +1,5 @@
 -- The references of all frames: the roots that frames give a collection.
-use Rattle.std.specs.Prelude.{ℕ, ◌+◌, ◌-◌, List, [], ◌∷◌, ◌++◌, length, nat_lt, slice_set, if◌then◌else◌}
+use Rattle.std.specs.Prelude.{ℕ, ◌-◌, List, [], ◌∷◌, ◌++◌, length, nat_lt, slice_set, if◌then◌else◌}
 use Rattle.mote_stack.specs.Frames.{Frame, Stack}
 
 -- the references of frames of which the youngest is the first; those of the oldest frame come first

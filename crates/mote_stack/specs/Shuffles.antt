@@ -1,5 +1,5 @@
 -- What the shuffles of operands do to a list.
-use Rattle.std.specs.Prelude.{ℕ, ◌+◌, ◌-◌, Bool, true, false, List, ◌++◌, length, take, drop}
+use Rattle.std.specs.Prelude.{ℕ, ◌+◌, Bool, true, false, List, ◌++◌, take}
 use Rattle.mote_stack.specs.Frames.{Frame, Stack, youngest_frame, with_youngest, with_refs, with_cells, without_last, last_items}
 
 -- a half of a frame: its references, or its whole-number cells

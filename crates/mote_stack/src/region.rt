@@ -1,5 +1,5 @@
 ghost use Rattle.std.specs.Prelude.{◌≡◌, ◌<◌, ◌≤◌, [], All, IfOk, length};
-ghost use Rattle.mote_stack.specs.Frames.{nth_frame, youngest_frame, cells_in_use, with_youngest};
+ghost use Rattle.mote_stack.specs.Frames.{IsStack, cells_in_use};
 
 use std::alloc::{AllocError, Global};
 use std::marker::Model;
@@ -61,7 +61,8 @@ impl Region {
 
     /// The number of frames.
     pub fn frame_count(&self) -> u16
-        ensures { result ≡ length self.now.frames }
+        ensures value { result ≡ length self.now.frames }
+        ensures holds { IsStack self.now }
     {
         self.count
     }

@@ -92,12 +92,8 @@ impl Region {
         let header = usize::from(self.youngest);
         let depth = self.cells[header + 3];
         let top = header - usize::from(depth);
-        rotate(
-            &mut self.cells,
-            top,
-            top + usize::from(m) + usize::from(n),
-            usize::from(m),
-        );
+        let moved = usize::from(m) + usize::from(n);
+        rotate(&mut self.cells, top, top + moved, usize::from(m));
     }
 
     /// Removes the whole-number cell that has `depth` cells above it.

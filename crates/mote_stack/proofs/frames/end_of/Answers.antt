@@ -1,6 +1,6 @@
-use Rattle.std.proofs.Common.{◌≡◌, ◌+◌, ◌-◌, ◌≤◌, ◌<◌, sym, ◌∙◌, ap, arith}
-use Rattle.mote_stack.specs.Layout.{AreFrames, frames_below}
-use Rattle.mote_stack.proofs.Youngest.{Opened, opened}
+use Rattle.std.proofs.Common.{◌+◌, ◌-◌, arith}
+use Rattle.mote_stack.specs.Layout.{frames_below}
+use Rattle.mote_stack.proofs.Youngest.{opened}
 use Rattle.mote_stack.proofs.Walks.{method_in, body_in, frames_next, drop_next}
 use Rattle.mote_stack.proofs.frames.end_of.Goals as goal
 

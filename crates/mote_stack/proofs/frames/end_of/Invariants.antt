@@ -1,4 +1,4 @@
-use Rattle.std.proofs.Common.{◌≡◌, ◌+◌, ◌-◌, ◌≤◌, ◌<◌, drop}
+use Rattle.std.proofs.Common.{◌≡◌, ◌-◌, ◌≤◌, drop}
 use Rattle.mote_stack.specs.Layout.{AreFrames, frames_below}
 use Rattle.mote_stack.proofs.frames.end_of.Given as goal
 

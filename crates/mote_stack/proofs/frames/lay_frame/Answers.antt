@@ -1,4 +1,4 @@
-use Rattle.std.proofs.Common.{◌≡◌, ◌≢◌, ℕ, List, ◌+◌, ◌-◌, ◌≤◌, ◌<◌, get_or, set, length, sym, ◌∙◌, ap, refl, arith, length-set, get_or-set_other, get_or-set_same}
+use Rattle.std.proofs.Common.{◌≡◌, ◌≢◌, ℕ, List, ◌+◌, ◌≤◌, ◌<◌, get_or, set, length, ◌∙◌, arith, length-set, get_or-set_other, get_or-set_same}
 use Rattle.mote_stack.specs.Moves.{LaysFrame}
 use Rattle.mote_stack.proofs.frames.lay_frame.Goals as goal
 

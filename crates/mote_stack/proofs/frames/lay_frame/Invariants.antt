@@ -1,4 +1,4 @@
-use Rattle.std.proofs.Common.{◌≡◌, ℕ, ◌+◌, ◌-◌, ◌≤◌, ◌<◌, length, get_or, vec_len}
+use Rattle.std.proofs.Common.{◌≡◌, ℕ, ◌≤◌, ◌<◌, get_or, vec_len}
 use Rattle.mote_stack.proofs.frames.lay_frame.Given as goal
 
 abbrev pub invariant-loop-at : goal.invariant-loop-at

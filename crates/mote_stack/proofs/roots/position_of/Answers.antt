@@ -1,8 +1,8 @@
-use Rattle.std.proofs.Common.{◌≡◌, ◌+◌, ◌-◌, ◌≤◌, ◌<◌, length, sym, ◌∙◌, ap, subst, ℕ, arith}
+use Rattle.std.proofs.Common.{◌≡◌, ◌+◌, ◌-◌, length, sym, ◌∙◌, ap, arith}
 use Rattle.mote_stack.specs.Roots.{refs_of}
-use Rattle.mote_stack.specs.Layout.{AreFrames, frames_below, body_of, base_of, ref_depth_of, root_position}
-use Rattle.mote_stack.proofs.Youngest.{Opened, opened}
-use Rattle.mote_stack.proofs.Walks.{method_in, body_in, depth_in, frames_next, refs_next, refs_bound, position_below, position_here}
+use Rattle.mote_stack.specs.Layout.{frames_below}
+use Rattle.mote_stack.proofs.Youngest.{opened}
+use Rattle.mote_stack.proofs.Walks.{method_in, body_in, depth_in, frames_next, refs_next, position_below, position_here}
 use Rattle.mote_stack.proofs.roots.position_of.Goals as goal
 
 pub overflow_sub-header : goal.overflow_sub-header

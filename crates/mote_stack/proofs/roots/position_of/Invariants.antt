@@ -1,4 +1,4 @@
-use Rattle.std.proofs.Common.{◌≡◌, ◌+◌, ◌-◌, ◌≤◌, ◌<◌, length}
+use Rattle.std.proofs.Common.{◌≡◌, ◌-◌, ◌≤◌, ◌<◌, length}
 use Rattle.mote_stack.specs.Roots.{refs_of}
 use Rattle.mote_stack.specs.Layout.{AreFrames, frames_below, root_position}
 use Rattle.mote_stack.proofs.roots.position_of.Given as goal

@@ -1,11 +1,9 @@
-use Rattle.std.proofs.Common.{◌≡◌, ◌+◌, ◌-◌, ◌≤◌, ◌<◌, get_or, length, refl, ap, sym, ◌∙◌, arith}
-use Rattle.std.proofs.lemmas.List.{get_or_read}
+use Rattle.std.proofs.Common.{◌+◌, ◌-◌, length, refl, ap, sym, ◌∙◌, arith}
 use Rattle.mote_stack.specs.Frames.{youngest_frame}
-use Rattle.mote_stack.specs.Shuffles.{duplicated, exchanged, without_item}
-use Rattle.mote_stack.specs.Layout.{body_of, base_of, ref_depth_of, cell_depth_of}
-use Rattle.mote_stack.proofs.Changed.{Seen, seen, some_of_ref, some_of_cell, some_of_free, body_read, refs_read, cells_read, KeepsFields, Becomes}
-use Rattle.mote_stack.proofs.Shuffled.{duplicated_shuffles, exchanged_shuffles, without_item_shuffles, refs_shuffled, cells_shuffled}
-use Rattle.mote_stack.proofs.Copies.{dup_up, dup_down, drop_down, swap_up, swap_down}
+use Rattle.mote_stack.specs.Shuffles.{duplicated}
+use Rattle.mote_stack.proofs.Changed.{seen, some_of_cell, cells_read}
+use Rattle.mote_stack.proofs.Shuffled.{duplicated_shuffles, cells_shuffled}
+use Rattle.mote_stack.proofs.Copies.{dup_down}
 use Rattle.mote_stack.proofs.region.Region.dupx_cells.Goals as goal
 use Rattle.std.specs.Vec.{with_item}
 

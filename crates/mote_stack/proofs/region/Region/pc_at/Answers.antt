@@ -1,8 +1,8 @@
-use Rattle.std.proofs.Common.{◌≡◌, ◌+◌, ◌-◌, ◌≤◌, ◌<◌, drop, get_or, length, sym, ◌∙◌, ap, arith}
+use Rattle.std.proofs.Common.{◌≡◌, ◌+◌, ◌-◌, drop, get_or, length, sym, ◌∙◌, ap, arith}
 use Rattle.std.proofs.lemmas.List.{get_or_read, get_or-drop}
 use Rattle.mote_stack.specs.Frames.{Frame, Stack, no_frame, nth_frame}
 use Rattle.mote_stack.specs.Layout.{frame_at, frames_below}
-use Rattle.mote_stack.proofs.Youngest.{Opened, opened, frame_count_is}
+use Rattle.mote_stack.proofs.Youngest.{opened, frame_count_is}
 use Rattle.mote_stack.proofs.region.Region.pc_at.Goals as goal
 
 pub end_of-end-requires-clause-there : goal.end_of-end-requires-clause-there

@@ -1,8 +1,7 @@
-use Rattle.std.proofs.Common.{◌≡◌, ◌+◌, ◌-◌, ◌≤◌, ◌<◌, get_or, length, ap, sym, ◌∙◌, arith}
+use Rattle.std.proofs.Common.{◌≡◌, ◌+◌, ◌-◌, get_or, length, ap, sym, ◌∙◌, arith}
 use Rattle.std.proofs.lemmas.List.{get_or_read}
 use Rattle.mote_stack.specs.Frames.{youngest_frame}
-use Rattle.mote_stack.specs.Layout.{body_of, base_of, ref_depth_of, cell_depth_of}
-use Rattle.mote_stack.proofs.Changed.{Seen, seen, some_of_ref, some_of_cell, some_of_free, body_read, refs_read, cells_read}
+use Rattle.mote_stack.proofs.Changed.{seen, some_of_cell, cells_read}
 use Rattle.mote_stack.proofs.HalfWrites.{cells_cut}
 use Rattle.mote_stack.proofs.region.Region.pop_cell.Goals as goal
 

@@ -1,5 +1,5 @@
-use Rattle.std.proofs.Common.{◌≡◌, ◌-◌, ap, arith}
-use Rattle.mote_stack.proofs.Changed.{Seen, seen, body_read}
+use Rattle.std.proofs.Common.{◌-◌, ap}
+use Rattle.mote_stack.proofs.Changed.{seen, body_read}
 use Rattle.mote_stack.proofs.Calls.{popped}
 use Rattle.mote_stack.proofs.region.Region.pop_frame.Goals as goal
 

@@ -1,6 +1,5 @@
-use Rattle.std.proofs.Common.{◌≡◌, ◌+◌, ◌-◌, ◌≤◌, ◌<◌, get_or, length, ap, sym, ◌∙◌, arith}
-use Rattle.mote_stack.specs.Layout.{body_of, base_of, ref_depth_of, cell_depth_of}
-use Rattle.mote_stack.proofs.Changed.{Seen, seen, some_of_ref, some_of_cell, some_of_free, body_read, refs_read, cells_read}
+use Rattle.std.proofs.Common.{◌+◌, ◌-◌, ap, arith}
+use Rattle.mote_stack.proofs.Changed.{seen, some_of_free, cells_read}
 use Rattle.mote_stack.proofs.HalfWrites.{cell_pushed}
 use Rattle.mote_stack.proofs.region.Region.push_cell.Goals as goal
 

@@ -1,11 +1,11 @@
-use Rattle.std.proofs.Common.{◌≡◌, ℕ, ◌+◌, ◌-◌, ◌≤◌, ◌<◌, get_or, length, refl, sym, ◌∙◌, ap, subst, arith}
-use Rattle.mote_stack.specs.Frames.{Frame, Stack, youngest_frame, with_youngest, with_frame, calling_frame, cells_in_use, frame_need}
+use Rattle.std.proofs.Common.{◌≡◌, ℕ, ◌+◌, ◌-◌, get_or, length, refl, sym, ◌∙◌, ap, subst, arith}
+use Rattle.mote_stack.specs.Frames.{youngest_frame, calling_frame, cells_in_use, frame_need}
 use Rattle.mote_stack.specs.Moves.{LaysFrame, HandsOver}
-use Rattle.mote_stack.specs.Layout.{body_of, base_of, ref_depth_of, cell_depth_of}
+use Rattle.mote_stack.specs.Layout.{base_of, ref_depth_of, cell_depth_of}
 use Rattle.mote_stack.specs.declared.region.Region.TheInside.{Inside}
 use Rattle.mote_stack.specs.declared.region.StackWanted.{StackWanted}
-use Rattle.mote_stack.proofs.Changed.{Seen, seen, KeepsFields, Becomes}
-use Rattle.mote_stack.proofs.Calls.{Sizes, sizes, count_of, caller_method, caller_body, few_frames, empty_becomes, no_refs, no_cells, Called, Passed, passed_first, passed_next, caller_cut, entered}
+use Rattle.mote_stack.proofs.Changed.{seen, KeepsFields}
+use Rattle.mote_stack.proofs.Calls.{sizes, count_of, caller_method, caller_body, few_frames, empty_becomes, no_refs, no_cells, Called, passed_first, passed_next, caller_cut, entered}
 use Rattle.mote_stack.proofs.region.Region.push_frame.Goals as goal
 use Rattle.mote_stack.proofs.region.Region.push_frame.Goals.{then-self-gt0, else-self-gt0}
 

@@ -1,8 +1,7 @@
-use Rattle.std.proofs.Common.{◌≡◌, ◌<◌, ◌≤◌, get_or, length, sym, ◌∙◌, ap, arith}
+use Rattle.std.proofs.Common.{get_or, length, ◌∙◌, ap, arith}
 use Rattle.std.proofs.lemmas.List.{get_or_read}
 use Rattle.mote_stack.specs.Frames.{Stack}
-use Rattle.mote_stack.specs.Roots.{refs_of, roots_of}
-use Rattle.mote_stack.specs.Layout.{stack_of}
+use Rattle.mote_stack.specs.Roots.{roots_of}
 use Rattle.mote_stack.proofs.RootCells.{root_read}
 use Rattle.mote_stack.proofs.region.Region.root.Goals as goal
 

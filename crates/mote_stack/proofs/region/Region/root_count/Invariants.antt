@@ -1,4 +1,4 @@
-use Rattle.std.proofs.Common.{◌≡◌, ◌+◌, ◌-◌, ◌≤◌, ◌<◌, length}
+use Rattle.std.proofs.Common.{◌≡◌, ◌+◌, ◌-◌, ◌≤◌, length}
 use Rattle.mote_stack.specs.Roots.{refs_of}
 use Rattle.mote_stack.specs.Layout.{AreFrames, frames_below}
 use Rattle.mote_stack.proofs.region.Region.root_count.Given as goal

@@ -1,6 +1,5 @@
-use Rattle.std.proofs.Common.{◌≡◌, ◌+◌, ◌-◌, ◌≤◌, ◌<◌, get_or, length, ap, sym, ◌∙◌, arith}
-use Rattle.mote_stack.specs.Layout.{body_of, base_of, ref_depth_of, cell_depth_of}
-use Rattle.mote_stack.proofs.Changed.{Seen, seen, some_of_ref, some_of_cell, some_of_free, body_read, refs_read, cells_read}
+use Rattle.std.proofs.Common.{◌-◌, arith}
+use Rattle.mote_stack.proofs.Changed.{seen, some_of_cell}
 use Rattle.mote_stack.proofs.HalfWrites.{cell_set}
 use Rattle.mote_stack.proofs.region.Region.set_int.Goals as goal
 

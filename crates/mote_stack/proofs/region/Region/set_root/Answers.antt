@@ -1,7 +1,6 @@
-use Rattle.std.proofs.Common.{◌≡◌, ◌<◌, ◌≤◌, ℕ, List, get_or, set, length, refl, sym, ◌∙◌, ap, subst, arith, length-set}
+use Rattle.std.proofs.Common.{ℕ, List, length, ◌∙◌, ap, arith, length-set}
 use Rattle.mote_stack.specs.Frames.{Frame, Stack}
-use Rattle.mote_stack.specs.Roots.{refs_of, roots_of, with_root}
-use Rattle.mote_stack.specs.Layout.{stack_of}
+use Rattle.mote_stack.specs.Roots.{roots_of, with_root}
 use Rattle.mote_stack.proofs.RootCells.{root_set}
 use Rattle.mote_stack.proofs.region.Region.set_root.Goals as goal
 

@@ -1,11 +1,9 @@
-use Rattle.std.proofs.Common.{◌≡◌, ◌+◌, ◌-◌, ◌≤◌, ◌<◌, get_or, length, refl, ap, sym, ◌∙◌, arith}
-use Rattle.std.proofs.lemmas.List.{get_or_read}
+use Rattle.std.proofs.Common.{◌+◌, ◌-◌, length, refl, ap, arith}
 use Rattle.mote_stack.specs.Frames.{youngest_frame}
-use Rattle.mote_stack.specs.Shuffles.{duplicated, exchanged, without_item}
-use Rattle.mote_stack.specs.Layout.{body_of, base_of, ref_depth_of, cell_depth_of}
-use Rattle.mote_stack.proofs.Changed.{Seen, seen, some_of_ref, some_of_cell, some_of_free, body_read, refs_read, cells_read, KeepsFields, Becomes}
-use Rattle.mote_stack.proofs.Shuffled.{duplicated_shuffles, exchanged_shuffles, without_item_shuffles, refs_shuffled, cells_shuffled}
-use Rattle.mote_stack.proofs.Copies.{dup_up, dup_down, drop_down, swap_up, swap_down}
+use Rattle.mote_stack.specs.Shuffles.{exchanged}
+use Rattle.mote_stack.proofs.Changed.{seen, some_of_cell, cells_read}
+use Rattle.mote_stack.proofs.Shuffled.{exchanged_shuffles, cells_shuffled}
+use Rattle.mote_stack.proofs.Copies.{swap_down}
 use Rattle.mote_stack.proofs.region.Region.swap_cells.Goals as goal
 
 pub invariant_of-self : goal.invariant_of-self
@@ -30,7 +28,7 @@ invariant_of-self c =
     (let shuffled = exchanged_shuffles c.args.m c.args.n (youngest_frame c.args.self.now).cells c.requires.there in
     cells_shuffled c.self.inside (record c.self.inside { cells = c.rotate.new.cells }) c.args.self.now (exchanged c.args.m c.args.n (youngest_frame c.args.self.now).cells) c.args.m c.args.n (length (youngest_frame c.args.self.now).cells) c.self.invariant s (record { bodies = refl; used = refl; count = refl; youngest = refl; len = c.rotate.ensures.len }) shuffled.0 shuffled.1 (omega arith)
     (swap_down c.self.inside (record c.self.inside { cells = c.rotate.new.cells }) c.args.self.now c.args.m c.args.n (length (youngest_frame c.args.self.now).cells)
-    (c.from-header.result - c.from.result) ((c.from-header.result - c.from.result) + c.from-2.result + c.from-3.result) c.from-4.result s
+    (c.from-header.result - c.from.result) ((c.from-header.result - c.from.result) + (c.from-2.result + c.from-3.result)) c.from-4.result s
     (omega arith) (omega arith) (omega arith) (omega arith) (omega arith) c.rotate.ensures.rotated)).1
 
 pub returns : goal.returns
@@ -55,5 +53,5 @@ returns c =
     (let shuffled = exchanged_shuffles c.args.m c.args.n (youngest_frame c.args.self.now).cells c.requires.there in
     cells_shuffled c.self.inside (record c.self.inside { cells = c.rotate.new.cells }) c.args.self.now (exchanged c.args.m c.args.n (youngest_frame c.args.self.now).cells) c.args.m c.args.n (length (youngest_frame c.args.self.now).cells) c.self.invariant s (record { bodies = refl; used = refl; count = refl; youngest = refl; len = c.rotate.ensures.len }) shuffled.0 shuffled.1 (omega arith)
     (swap_down c.self.inside (record c.self.inside { cells = c.rotate.new.cells }) c.args.self.now c.args.m c.args.n (length (youngest_frame c.args.self.now).cells)
-    (c.from-header.result - c.from.result) ((c.from-header.result - c.from.result) + c.from-2.result + c.from-3.result) c.from-4.result s
+    (c.from-header.result - c.from.result) ((c.from-header.result - c.from.result) + (c.from-2.result + c.from-3.result)) c.from-4.result s
     (omega arith) (omega arith) (omega arith) (omega arith) (omega arith) c.rotate.ensures.rotated)).0

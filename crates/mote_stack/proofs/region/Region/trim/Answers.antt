@@ -1,4 +1,4 @@
-use Rattle.std.proofs.Common.{◌≡◌, ◌+◌, ap}
+use Rattle.std.proofs.Common.{◌+◌, ap}
 use Rattle.mote_stack.proofs.Calls.{both_cut}
 use Rattle.mote_stack.proofs.region.Region.trim.Goals as goal
 

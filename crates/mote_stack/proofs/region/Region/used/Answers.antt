@@ -1,4 +1,4 @@
-use Rattle.std.proofs.Common.{◌≡◌, sym, ◌∙◌, ap}
+use Rattle.std.proofs.Common.{sym, ◌∙◌, ap}
 use Rattle.std.specs.List.{sum_by}
 use Rattle.mote_stack.specs.Frames.{Stack, cells_of}
 use Rattle.mote_stack.proofs.Youngest.{used_is}
