@@ -47,7 +47,7 @@ cells_of frame = frame.body + 4
 abbrev pub cells_in_use : Stack → ℕ
 cells_in_use stack = sum_by cells_of stack.frames
 
--- the youngest frame has a free cell
+-- the youngest frame has n free cells between its halves
 abbrev pub HasFreeCells : Stack → ℕ → Type 0
 HasFreeCells stack n =
     length (youngest_frame stack).refs + length (youngest_frame stack).cells + n ≤ (youngest_frame stack).body

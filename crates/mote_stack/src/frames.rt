@@ -1,3 +1,5 @@
+//! Frames that come and go, and what their headers say.
+
 ghost use Rattle.std.specs.Prelude.{◌≡◌, ◌<◌, ◌≤◌, ◌+◌, ◌-◌, length, drop, MatchResult, slice_index, vec_len};
 ghost use Rattle.mote_stack.specs.Frames.{Stack, nth_frame, youngest_frame, with_youngest, with_frame, without_frame, frame_need, cells_in_use};
 ghost use Rattle.mote_stack.specs.Layout.{AreFrames, frames_below};
@@ -6,7 +8,7 @@ ghost use Rattle.mote_stack.specs.Moves.{LaysFrame, HandsOver};
 use crate::region::{Region, StackWanted};
 
 /// Where frame k of `count` frames ends, the youngest being 0.
-pub(crate) fn end_of(cells: &Vec<u16>, bodies: &Vec<u16>, count: u16, used: u16, k: u16) -> u16
+fn end_of(cells: &Vec<u16>, bodies: &Vec<u16>, count: u16, used: u16, k: u16) -> u16
     requires frames { AreFrames bodies.now.items cells.now.items count used }
     requires within { used ≤ length cells.now.items }
     requires small { length cells.now.items ≤ 32767 }

@@ -1,3 +1,5 @@
+//! The two lists of the youngest frame, item by item.
+
 ghost use Rattle.std.specs.Prelude.{◌≡◌, ◌++◌, ◌<◌, ◌-◌, [], ◌∷◌, length, slice_index, slice_set};
 ghost use Rattle.mote_stack.specs.Frames.{youngest_frame, with_refs, with_cells, without_last, HasFreeCells};
 

@@ -1,3 +1,5 @@
+//! The type, and what it has in use.
+
 ghost use Rattle.std.specs.Prelude.{◌≡◌, ◌<◌, ◌≤◌, [], All, IfOk, length};
 ghost use Rattle.mote_stack.specs.Frames.{IsStack, cells_in_use};
 

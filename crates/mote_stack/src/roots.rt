@@ -1,3 +1,5 @@
+//! The references of all frames, for a collection: no other cell is a root.
+
 ghost use Rattle.std.specs.Prelude.{◌≡◌, ◌<◌, ◌≤◌, ◌+◌, ◌-◌, length, slice_index};
 ghost use Rattle.mote_stack.specs.Roots.{refs_of, roots_of, with_root};
 ghost use Rattle.mote_stack.specs.Layout.{AreFrames, frames_below, root_position};

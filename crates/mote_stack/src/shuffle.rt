@@ -1,3 +1,5 @@
+//! Shuffles of the operands of the youngest frame.
+
 ghost use Rattle.std.specs.Prelude.{◌≡◌, ◌<◌, ◌≤◌, ◌+◌, ◌-◌, length, take, vec_len};
 ghost use Rattle.mote_stack.specs.Frames.{youngest_frame, with_youngest, with_refs, with_cells, HasFreeCells};
 ghost use Rattle.mote_stack.specs.Shuffles.{half, with_half, duplicated, exchanged, without_item, trimmed};
