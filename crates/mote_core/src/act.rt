@@ -86,7 +86,7 @@ fn low_byte(number: i32) -> u8
 
 /// Shows each of the bytes.
 fn show<C: Console>(console: &mut C, bytes: &[u8]) -> Result<(), ConsoleFailed>
-    ensures said { Says C.shown C.noted C.faults C.room console.old console.new (putting bytes.now) result }
+    ensures said { Says C.left C.shown C.noted C.faults C.room console.old console.new (putting bytes.now) result }
     ensures left { C.left console.new ≡ C.left console.old }
 {
     for byte in bytes {
@@ -97,7 +97,7 @@ fn show<C: Console>(console: &mut C, bytes: &[u8]) -> Result<(), ConsoleFailed>
 
 /// Shows a number in decimal.
 fn print<C: Console>(console: &mut C, number: i32) -> Result<(), ConsoleFailed>
-    ensures said { Says C.shown C.noted C.faults C.room console.old console.new (putting (signed_decimal number)) result }
+    ensures said { Says C.left C.shown C.noted C.faults C.room console.old console.new (putting (signed_decimal number)) result }
     ensures left { C.left console.new ≡ C.left console.old }
 {
     let mut buffer = Buffer::new();
@@ -106,7 +106,7 @@ fn print<C: Console>(console: &mut C, number: i32) -> Result<(), ConsoleFailed>
 
 /// The value of the next byte, or -1 where none is left.
 fn read<C: Console>(console: &mut C) -> Result<i32, ConsoleFailed>
-    ensures said { Says C.shown C.noted C.faults C.room console.old console.new (Get ∷ []) result }
+    ensures said { Says C.left C.shown C.noted C.faults C.room console.old console.new (Get ∷ []) result }
     ensures number { IfOk result (λ number. IsRead (C.left console.old) (C.left console.new) number) }
 {
     match console.get()? {
