@@ -65,6 +65,7 @@ fn keys_rise(count: u16, rows: &[u8]) -> bool
 }
 
 /// SWITCH: the default target, the count, and rows whose keys rise.
+#[inline(always)]
 pub(crate) fn switch(width: Width, operands: &[u8]) -> Option<(MInsn, usize)>
     ensures { result ≡ switch_in width operands.now }
 {
@@ -84,6 +85,7 @@ pub(crate) fn switch(width: Width, operands: &[u8]) -> Option<(MInsn, usize)>
 }
 
 /// Whether a key is in range after so many keys from the low one on.
+#[inline(always)]
 fn last_fits(low: i32, count: u16) -> bool
     ensures { result ≡ le_z (low +ℤ pos count) (pos (2 ^ 31)) }
 {
@@ -91,6 +93,7 @@ fn last_fits(low: i32, count: u16) -> bool
 }
 
 /// TABLE: the default target, the low key, the count, which is at least 1, and targets.
+#[inline(always)]
 pub(crate) fn table(width: Width, operands: &[u8]) -> Option<(MInsn, usize)>
     ensures { result ≡ table_in width operands.now }
 {

@@ -1,6 +1,6 @@
 //! The turns that control takes: ticks, jumps and the natives of the library over a console.
 
-ghost use Rattle.std.specs.Prelude.{◌≡◌, ◌+◌, ◌≤◌, [], ◌∷◌, IfOk, replicate, vec_len, vec_capacity};
+ghost use Rattle.std.specs.Prelude.{◌≡◌, ◌+◌, ◌≤◌, [], ◌∷◌, IfOk, replicate, length};
 ghost use Rattle.std.specs.Fmt.{signed_decimal};
 ghost use Rattle.dialogue.specs.Dialogue.{Get, putting};
 ghost use Rattle.dialogue.specs.Natives.{low_byte as low_byte_of};
@@ -9,7 +9,7 @@ ghost use Rattle.mote_core.specs.declared.turn.Turn.TheVariants.{Write, Read, Pr
 ghost use Rattle.mote_core.specs.Turns.{CanFollow};
 ghost use Rattle.mote_core.specs.Acts.{Acts, IsTick, IsJump, IsRead, place};
 
-use crate::cells::{push_number, push_zeros};
+use crate::cells::{Cells, push_number, push_zeros};
 use crate::turn::Turn;
 use host_face::{Console, ConsoleFailed};
 use itoa::Buffer;
@@ -20,13 +20,13 @@ use mote_model::Ending;
 #[derive(Drop)]
 pub(crate) struct Active {
     pub(crate) pc: usize,
-    pub(crate) cells: Vec<u16>,
+    pub(crate) cells: Cells,
     pub(crate) left: u64,
 }
 
 impl Active {
     /// Nowhere yet, over cells that have room.
-    pub(crate) fn new(cells: Vec<u16>) -> Active
+    pub(crate) fn new(cells: Cells) -> Active
         ensures { result.cells ≡ cells }
     {
         Active {
@@ -38,11 +38,11 @@ impl Active {
 
     /// Goes to the start of a method that has so many cells as locals.
     pub(crate) fn start(&mut self, cell_locals: u16, ticks: u64)
-        requires { cell_locals ≤ vec_capacity self.old.cells }
+        requires { cell_locals ≤ self.old.cells.room }
         ensures pc { self.new.pc ≡ 0 }
         ensures cells { self.new.cells.items ≡ replicate cell_locals 0 }
         ensures left { self.new.left ≡ ticks }
-        ensures room { vec_capacity self.old.cells ≤ vec_capacity self.new.cells }
+        ensures room { self.new.cells.room ≡ self.old.cells.room }
     {
         self.cells.clear();
         push_zeros(&mut self.cells, cell_locals);
@@ -125,7 +125,7 @@ fn write<C: Console>(
     ensures acts { Acts C.left C.shown C.noted C.faults C.room (Write number) next
         (place active.old.pc active.old.cells.items active.old.left) console.old console.new
         (place active.new.pc active.new.cells.items active.new.left) result }
-    ensures room { vec_capacity active.old.cells ≤ vec_capacity active.new.cells }
+    ensures room { active.new.cells.room ≡ active.old.cells.room }
 {
     if !active.tick() {
         return Err(Ending::Spent);
@@ -149,7 +149,7 @@ fn write_decimal<C: Console>(
     ensures acts { Acts C.left C.shown C.noted C.faults C.room (Print number) next
         (place active.old.pc active.old.cells.items active.old.left) console.old console.new
         (place active.new.pc active.new.cells.items active.new.left) result }
-    ensures room { vec_capacity active.old.cells ≤ vec_capacity active.new.cells }
+    ensures room { active.new.cells.room ≡ active.old.cells.room }
 {
     if !active.tick() {
         return Err(Ending::Spent);
@@ -165,11 +165,11 @@ fn write_decimal<C: Console>(
 
 /// read: a tick, and the value of the next byte is pushed.
 fn push_read<C: Console>(next: usize, active: &mut Active, console: &mut C) -> Result<(), Ending>
-    requires { vec_len active.old.cells + 2 ≤ vec_capacity active.old.cells }
+    requires { length active.old.cells.items + 2 ≤ active.old.cells.room }
     ensures acts { Acts C.left C.shown C.noted C.faults C.room Read next
         (place active.old.pc active.old.cells.items active.old.left) console.old console.new
         (place active.new.pc active.new.cells.items active.new.left) result }
-    ensures room { vec_capacity active.old.cells ≤ vec_capacity active.new.cells }
+    ensures room { active.new.cells.room ≡ active.old.cells.room }
 {
     if !active.tick() {
         return Err(Ending::Spent);
@@ -191,11 +191,11 @@ pub(crate) fn act<C: Console>(
     active: &mut Active,
     console: &mut C,
 ) -> Result<(), Ending>
-    requires { CanFollow turn (vec_len active.old.cells) (vec_capacity active.old.cells) }
+    requires { CanFollow turn (length active.old.cells.items) active.old.cells.room }
     ensures acts { Acts C.left C.shown C.noted C.faults C.room turn next
         (place active.old.pc active.old.cells.items active.old.left) console.old console.new
         (place active.new.pc active.new.cells.items active.new.left) result }
-    ensures room { vec_capacity active.old.cells ≤ vec_capacity active.new.cells }
+    ensures room { active.new.cells.room ≡ active.old.cells.room }
 {
     match turn {
         Turn::Next => active.pc = next,

@@ -7,6 +7,7 @@ ghost use Rattle.mote_core.specs.Ready.{Ready};
 ghost use Rattle.mote_core.specs.Ran.{Ran, IsEndingSoFar};
 
 use crate::act::{Active, act};
+use crate::cells::Cells;
 use crate::turn::execute;
 use host_face::Console;
 use image_check::Checked;
@@ -32,14 +33,14 @@ pub struct Mote {
 }
 
 impl Model for Mote {
-    ghost use Rattle.std.specs.Prelude.{◌≤◌, vec_capacity};
+    ghost use Rattle.std.specs.Prelude.{◌≤◌};
     ghost use Rattle.mote_core.specs.Ready.{Ready};
 
     ghost Value = { Ready };
 
     ghost view = { λ mote. record { image = mote.checked; heap = mote.heap; stack = mote.stack } };
 
-    ghost invariant = { λ mote. mote.stack ≤ vec_capacity mote.active.cells };
+    ghost invariant = { λ mote. mote.stack ≤ mote.active.cells.room };
 }
 
 impl Mote {
@@ -53,7 +54,7 @@ impl Mote {
         ensures ok { IfOk result (λ mote. mote ≡ record { image = checked; heap = heap; stack = stack }) }
         ensures err { IfErr result (λ back. back ≡ checked) }
     {
-        match Vec::with_capacity(alloc, usize::from(stack)) {
+        match Cells::new(alloc, stack) {
             Ok(cells) => Ok(Mote {
                 checked,
                 heap,

@@ -1,5 +1,4 @@
 use Rattle.std.proofs.Common.{◌≡◌, ◌+◌, ◌≤◌, ◌<◌, Some, sym, ap, subst, ◌∙◌, arith, rules}
-use Rattle.std.specs.Prelude.{vec_capacity}
 use Rattle.image_form.specs.Grammar.{IsImage}
 use Rattle.image_check.specs.Checked.{IsChecked, IsBuilt}
 use Rattle.mote_model.specs.Machine.{method_of, frame_cells}
@@ -43,10 +42,10 @@ execute-turn-requires-clause-runs g c =
     let stack_is : c.self.inside.stack ≡ ready.stack = ap (λ r. r.stack) c.self.view_is in
     let is_main = subst (λ image. method_of image image.main ≡ Some main) (c.image.ensures.all ∙ image_is) c.main_method-main.ensures in
     let active = c.loop-insn.self-inside.1.1.1.1.0 in
-    let fits : main.body ≤ vec_capacity active.cells = omega (arith, c.if-from-need.false, c.from.ensures, c.from-need.ensures, stack_is, c.loop-insn.invariant.room) in
+    let fits : main.body ≤ active.cells.room = omega (arith, c.if-from-need.false, c.from.ensures, c.from-need.ensures, stack_is, c.loop-insn.invariant.room) in
     runs-at C.left C.shown C.noted C.faults C.room ready (subst IsImage image_is c.image.ensures.image) (subst IsChecked image_is c.image.ensures.checked) (subst IsBuilt image_is c.image.ensures.built)
     c.args.ticks c.args.console.now main is_main c.as_slice-code.result.now c.as_slice-code.ensures c.loop-insn.console _ c.loop-insn.invariant.going
-    c.in-Some.insn c.in-Some.size (vec_capacity active.cells) (sym c.decode_at.ensures.exact ∙ c.in-Some.is) fits
+    c.in-Some.insn c.in-Some.size active.cells.room (sym c.decode_at.ensures.exact ∙ c.in-Some.is) fits
 
 pub unreachable-requires : goal.unreachable-requires
 unreachable-requires g c =
@@ -73,10 +72,10 @@ returns-in-Err-clause-ran g c =
     let stack_is : c.self.inside.stack ≡ ready.stack = ap (λ r. r.stack) c.self.view_is in
     let is_main = subst (λ image. method_of image image.main ≡ Some main) (c.image.ensures.all ∙ image_is) c.main_method-main.ensures in
     let active = c.loop-insn.self-inside.1.1.1.1.0 in
-    let fits : main.body ≤ vec_capacity active.cells = omega (arith, c.if-from-need.false, c.from.ensures, c.from-need.ensures, stack_is, c.loop-insn.invariant.room) in
+    let fits : main.body ≤ active.cells.room = omega (arith, c.if-from-need.false, c.from.ensures, c.from-need.ensures, stack_is, c.loop-insn.invariant.room) in
     (ends-at C.left C.shown C.noted C.faults C.room ready (subst IsImage image_is c.image.ensures.image) (subst IsChecked image_is c.image.ensures.checked) (subst IsBuilt image_is c.image.ensures.built)
     c.args.ticks c.args.console.now main is_main c.as_slice-code.result.now c.as_slice-code.ensures c.loop-insn.console _ c.loop-insn.invariant.going
-    c.act.new.console _ c.execute-turn.new.cells.items c.in-Some.insn c.in-Some.size (vec_capacity active.cells) c.execute-turn.result
+    c.act.new.console _ c.execute-turn.new.cells.items c.in-Some.insn c.in-Some.size active.cells.room c.execute-turn.result
     (sym c.decode_at.ensures.exact ∙ c.in-Some.is) fits c.execute-turn.ensures.turn c.in-Err.ending c.in-Err.ensures.acts).0
 
 pub returns-in-Err-clause-so_far : goal.returns-in-Err-clause-so_far
@@ -88,10 +87,10 @@ returns-in-Err-clause-so_far g c =
     let stack_is : c.self.inside.stack ≡ ready.stack = ap (λ r. r.stack) c.self.view_is in
     let is_main = subst (λ image. method_of image image.main ≡ Some main) (c.image.ensures.all ∙ image_is) c.main_method-main.ensures in
     let active = c.loop-insn.self-inside.1.1.1.1.0 in
-    let fits : main.body ≤ vec_capacity active.cells = omega (arith, c.if-from-need.false, c.from.ensures, c.from-need.ensures, stack_is, c.loop-insn.invariant.room) in
+    let fits : main.body ≤ active.cells.room = omega (arith, c.if-from-need.false, c.from.ensures, c.from-need.ensures, stack_is, c.loop-insn.invariant.room) in
     (ends-at C.left C.shown C.noted C.faults C.room ready (subst IsImage image_is c.image.ensures.image) (subst IsChecked image_is c.image.ensures.checked) (subst IsBuilt image_is c.image.ensures.built)
     c.args.ticks c.args.console.now main is_main c.as_slice-code.result.now c.as_slice-code.ensures c.loop-insn.console _ c.loop-insn.invariant.going
-    c.act.new.console _ c.execute-turn.new.cells.items c.in-Some.insn c.in-Some.size (vec_capacity active.cells) c.execute-turn.result
+    c.act.new.console _ c.execute-turn.new.cells.items c.in-Some.insn c.in-Some.size active.cells.room c.execute-turn.result
     (sym c.decode_at.ensures.exact ∙ c.in-Some.is) fits c.execute-turn.ensures.turn c.in-Err.ending c.in-Err.ensures.acts).1
 
 pub loop-insn-smaller : goal.loop-insn-smaller
@@ -103,10 +102,10 @@ loop-insn-smaller g c =
     let stack_is : c.self.inside.stack ≡ ready.stack = ap (λ r. r.stack) c.self.view_is in
     let is_main = subst (λ image. method_of image image.main ≡ Some main) (c.image.ensures.all ∙ image_is) c.main_method-main.ensures in
     let active = c.loop-insn.self-inside.1.1.1.1.0 in
-    let fits : main.body ≤ vec_capacity active.cells = omega (arith, c.if-from-need.false, c.from.ensures, c.from-need.ensures, stack_is, c.loop-insn.invariant.room) in
+    let fits : main.body ≤ active.cells.room = omega (arith, c.if-from-need.false, c.from.ensures, c.from-need.ensures, stack_is, c.loop-insn.invariant.room) in
     (on-at C.left C.shown C.noted C.faults C.room ready (subst IsImage image_is c.image.ensures.image) (subst IsChecked image_is c.image.ensures.checked) (subst IsBuilt image_is c.image.ensures.built)
     c.args.ticks c.args.console.now main is_main c.as_slice-code.result.now c.as_slice-code.ensures c.loop-insn.console _ c.loop-insn.invariant.going
-    c.act.new.console _ c.execute-turn.new.cells.items c.in-Some.insn c.in-Some.size (vec_capacity active.cells) c.execute-turn.result
+    c.act.new.console _ c.execute-turn.new.cells.items c.in-Some.insn c.in-Some.size active.cells.room c.execute-turn.result
     (sym c.decode_at.ensures.exact ∙ c.in-Some.is) fits c.execute-turn.ensures.turn c.in_default-act.ensures.acts).1
 
 pub loop-insn-preserved : goal.loop-insn-preserved
@@ -118,9 +117,9 @@ loop-insn-preserved g c =
     let stack_is : c.self.inside.stack ≡ ready.stack = ap (λ r. r.stack) c.self.view_is in
     let is_main = subst (λ image. method_of image image.main ≡ Some main) (c.image.ensures.all ∙ image_is) c.main_method-main.ensures in
     let active = c.loop-insn.self-inside.1.1.1.1.0 in
-    let fits : main.body ≤ vec_capacity active.cells = omega (arith, c.if-from-need.false, c.from.ensures, c.from-need.ensures, stack_is, c.loop-insn.invariant.room) in
+    let fits : main.body ≤ active.cells.room = omega (arith, c.if-from-need.false, c.from.ensures, c.from-need.ensures, stack_is, c.loop-insn.invariant.room) in
     let on = (on-at C.left C.shown C.noted C.faults C.room ready (subst IsImage image_is c.image.ensures.image) (subst IsChecked image_is c.image.ensures.checked) (subst IsBuilt image_is c.image.ensures.built)
     c.args.ticks c.args.console.now main is_main c.as_slice-code.result.now c.as_slice-code.ensures c.loop-insn.console _ c.loop-insn.invariant.going
-    c.act.new.console _ c.execute-turn.new.cells.items c.in-Some.insn c.in-Some.size (vec_capacity active.cells) c.execute-turn.result
+    c.act.new.console _ c.execute-turn.new.cells.items c.in-Some.insn c.in-Some.size active.cells.room c.execute-turn.result
     (sym c.decode_at.ensures.exact ∙ c.in-Some.is) fits c.execute-turn.ensures.turn c.in_default-act.ensures.acts) in
     record { going = on.0; room = omega (arith, c.loop-insn.invariant.room, c.execute-turn.ensures.room, c.act.ensures.room) }

@@ -1,5 +1,4 @@
 use Rattle.std.proofs.Common.{ℕ, ◌≤◌}
-use Rattle.std.specs.Prelude.{vec_capacity}
 use Rattle.mote_core.specs.Ready.{limits_of}
 use Rattle.mote_core.specs.Acts.{place}
 use Rattle.mote_core.proofs.Going.{Going, left_at}
@@ -12,7 +11,7 @@ invariant-loop-insn g l =
     let active = l.self-inside.1.1.1.1.0 in
     record {
       going : Going console.left console.shown console.noted console.faults console.room l.fn.self.image (limits_of l.fn.self l.fn.ticks) l.fn.console l.console (place active.pc active.cells.items active.left);
-      room : l.fn.self.stack ≤ vec_capacity active.cells;
+      room : l.fn.self.stack ≤ active.cells.room;
     }
 
 abbrev pub decreases-loop-insn : goal.decreases-loop-insn
