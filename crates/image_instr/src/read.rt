@@ -1,6 +1,6 @@
 //! The instruction that is at a place of the code, family by family.
 
-ghost use Rattle.std.specs.Prelude.{◌≡◌, ℕ, Some, List, drop, IfSome, IfNone, option_map};
+ghost use Rattle.std.specs.Prelude.{◌≡◌, ℕ, Some, List, drop, IfSome, IfNone, IsSome, option_map};
 ghost use Rattle.image_instr.specs.Reading.{insn_at, rows_at, insn_in, constant_in, local_in, stack_in, number_in, jump_in, ret_in, static_in, field_in, array_in, element_in, object_in, load_in, store_in, rclear_in, inc_in, rdupx_in, dupx_in, rpop_in, pop_in, swap_in, drop_in, u2_in, rj_in, get_static_in, put_static_in, get_field_in, put_field_in, multi_in, calli_in, new_array_in};
 ghost use Rattle.image_instr.specs.declared.insn.MInsn.TheVariants.{Bin, Jz, JCmp, ALoad, AStore};
 ghost use Rattle.image_instr.specs.Insn.{HoldsAt};
@@ -9,7 +9,7 @@ ghost use Rattle.image_instr.specs.declared.insn.MInsn.{MInsn};
 
 use crate::insn::{Condition, Element, Kind, MInsn, Operation, RefTest, Width};
 use crate::operand::{halves, i1, i2, i4, index, u1, u2};
-use crate::switch::{switch, table};
+use crate::switch::{known_switch, switch, table};
 
 #[inline(always)]
 fn load(kind: Kind, operands: &[u8]) -> Option<(MInsn, usize)>
@@ -613,6 +613,22 @@ fn insn(opcode: u8, operands: &[u8]) -> Option<(MInsn, usize)>
     }
 }
 
+/// An instruction that is known to be there: the keys of a switch are not tested again.
+#[inline(always)]
+fn known(opcode: u8, operands: &[u8]) -> (MInsn, usize)
+    requires { IsSome (insn_in opcode operands.now) }
+    ensures { insn_in opcode operands.now ≡ Some result }
+{
+    match opcode {
+        0x75 => known_switch(Width::One, operands),
+        0x76 => known_switch(Width::Two, operands),
+        _ => match insn(opcode, operands) {
+            Some(found) => found,
+            None => unreachable!(),
+        },
+    }
+}
+
 /// The instruction at the prefix of the bytes.
 #[inline(always)]
 fn prefix(bytes: &[u8]) -> Option<(MInsn, usize)>
@@ -651,4 +667,27 @@ pub fn decode_at(code: &[u8], pc: usize) -> Option<(MInsn, usize)>
     ensures exact { result ≡ insn_at (drop pc code.now) }
 {
     found_at(code, pc)
+}
+
+/// The instruction that is known to be at the prefix of what stands from a place on.
+#[inline(always)]
+fn known_at(code: &[u8], pc: usize) -> (MInsn, usize)
+    requires { IsSome (insn_at (drop pc code.now)) }
+    ensures { insn_at (drop pc code.now) ≡ Some result }
+{
+    known(code[pc], &code[pc + 1..])
+}
+
+/// The instruction that is at a place of the code, and its size, where one is known to be: as
+/// `decode_at`, but in a time that does not depend on the rows of a switch.
+#[inline(always)]
+pub fn decode_known(code: &[u8], pc: usize) -> (MInsn, usize)
+    // An instruction stands there.
+    requires { IsSome (insn_at (drop pc code.now)) }
+    // What is answered is encoded there, with its rows.
+    ensures found { HoldsAt code.now pc result.0 (rows_at result.0 (drop pc code.now)) result.1 }
+    // It is what `decode_at` finds.
+    ensures exact { insn_at (drop pc code.now) ≡ Some result }
+{
+    known_at(code, pc)
 }

@@ -1,6 +1,6 @@
 //! Switches and tables: their rows are read in the code, and searched there.
 
-ghost use Rattle.std.specs.Prelude.{◌≡◌, ℕ, ◌+◌, ◌+ℤ◌, ◌*◌, ◌^◌, ◌<◌, ◌≤◌, ◌≢◌, List, pos, length, drop, IfSome, IfNone};
+ghost use Rattle.std.specs.Prelude.{◌≡◌, ℕ, ◌+◌, ◌+ℤ◌, ◌*◌, ◌^◌, ◌<◌, ◌≤◌, ◌≢◌, List, pos, length, drop, Some, IfSome, IfNone, IsSome};
 ghost use Rattle.std.specs.Int.Signed.{le_z};
 ghost use Rattle.std.specs.Ordering.{int_eq};
 ghost use Rattle.byteorder.specs.Endian.{big_number};
@@ -82,6 +82,22 @@ pub(crate) fn switch(width: Width, operands: &[u8]) -> Option<(MInsn, usize)>
         count,
     };
     Some((insn, 5 + size))
+}
+
+/// SWITCH where one is known to be: its keys are not tested again.
+#[inline(always)]
+pub(crate) fn known_switch(width: Width, operands: &[u8]) -> (MInsn, usize)
+    requires { IsSome (switch_in width operands.now) }
+    ensures { switch_in width operands.now ≡ Some result }
+{
+    let default = BigEndian::read_u16(operands);
+    let count = BigEndian::read_u16(&operands[2..]);
+    let insn = MInsn::Switch {
+        width,
+        default,
+        count,
+    };
+    (insn, 5 + ROW * usize::from(count))
 }
 
 /// Whether a key is in range after so many keys from the low one on.

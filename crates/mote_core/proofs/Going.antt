@@ -1,6 +1,6 @@
 -- A run over a console, step by step: what it has said, and the state of the split machine that it is in.
 use Rattle.std.proofs.Common.{◌≡◌, ℕ, zero, suc, ◌+◌, ◌-◌, ◌*◌, ◌<◌, ◌≤◌, Bool, true, false, cond, List, [], ◌∷◌, ◌++◌, length, drop, Option, Some, None, Result, Ok, Err, refl, sym, ap, subst, ◌∙◌, arith, rules}
-use Rattle.std.specs.Prelude.{IfSome, nat_le, option_map, replicate}
+use Rattle.std.specs.Prelude.{IfSome, IsSome, nat_le, option_map, replicate}
 use Rattle.std.proofs.lemmas.List.{append-nil}
 use Rattle.std.proofs.lemmas.Option.{none-some, some_pair_parts}
 use Rattle.dialogue.specs.Dialogue.{Item, gets}
@@ -50,6 +50,11 @@ le_true a b le = search rules
 
 le_false : (a b : ℕ) → b < a → nat_le a b ≡ false
 le_false a b lt = search rules
+
+-- what is not nothing is something
+not_none : {A : Type 0} (o : Option A) → (o ≡ None → ⊥) → IsSome o
+not_none None not = absurd (not refl)
+not_none (Some x) not = refl
 
 -- where an option is told, a fact of what it tells
 if_told : {A : Type 0} (o : Option A) (P : A → Type 0) → ((x : A) → o ≡ Some x → P x) → IfSome o P
@@ -113,8 +118,8 @@ module _ (image : Image) (limits : Limits) (state : State) (place : Place) (is :
       subst (λ insn. CanRun insn good.frame capacity) (some_pair_parts right.insn insn right.size size (sym right.found ∙ found)).0 can
 
   -- an instruction is at its pc
-  pub not_none : IsChecked image → IsBuilt image → insn_at (drop good.frame.pc good.method.code) ≡ None → ⊥
-  not_none checked built none =
+  pub is_there : IsChecked image → IsBuilt image → insn_at (drop good.frame.pc good.method.code) ≡ None → ⊥
+  is_there checked built none =
       none-some _ (sym none ∙ (holds_here image checked built state good).right.found)
 
 -- the input does not count
@@ -186,9 +191,9 @@ module _ {C : Type 0} (left shown noted : C → Option (List ℕ)) (faults : C �
         record { frame = g.good.frame; are = cells_are ready.image (limits_of ready ticks) g.state before g.is g.good; can = can-at insn size capacity found fits }
 
     -- an instruction is at each pc that is reached
-    pub none-at : insn_at (drop before.pc code) ≡ None → ⊥
-    none-at none =
-        not_none ready.image (limits_of ready ticks) g.state before g.is g.good checked built (sym (ap insn_at bytes_are) ∙ none)
+    pub there-at : IsSome (insn_at (drop before.pc code))
+    there-at =
+        not_none (insn_at (drop before.pc code)) (λ none. is_there ready.image (limits_of ready ticks) g.state before g.is g.good checked built (sym (ap insn_at bytes_are) ∙ none))
 
     pub shows-at : (new : C) (after : Place) (cells : List ℕ) (insn : MInsn) (size capacity : ℕ) (turn : Turn) (result : Result (Unit {0}) Ending)
         → insn_at (drop before.pc code) ≡ Some (insn, size) → method.body ≤ capacity

@@ -51,6 +51,7 @@ impl Active {
     }
 
     /// One tick, if there is one left.
+    #[inline(always)]
     fn tick(&mut self) -> bool
         ensures tick { IsTick self.old.left self.new.left result }
         ensures pc { self.new.pc ≡ self.old.pc }
@@ -64,6 +65,7 @@ impl Active {
     }
 
     /// Goes to a pc. One that is not after the pc takes a tick.
+    #[inline(always)]
     fn jump(&mut self, target: u16) -> Result<(), Ending>
         ensures jumped { IsJump self.old.pc target self.old.left self.new.pc self.new.left result }
         ensures cells { self.new.cells ≡ self.old.cells }
@@ -116,6 +118,7 @@ fn read<C: Console>(console: &mut C) -> Result<i32, ConsoleFailed>
 }
 
 /// write: a tick, and the low eight bits of a number are shown.
+#[inline(never)]
 fn write<C: Console>(
     number: i32,
     next: usize,
@@ -140,6 +143,7 @@ fn write<C: Console>(
 }
 
 /// print: a tick, and a number is shown in decimal.
+#[inline(never)]
 fn write_decimal<C: Console>(
     number: i32,
     next: usize,
@@ -164,6 +168,7 @@ fn write_decimal<C: Console>(
 }
 
 /// read: a tick, and the value of the next byte is pushed.
+#[inline(never)]
 fn push_read<C: Console>(next: usize, active: &mut Active, console: &mut C) -> Result<(), Ending>
     requires { length active.old.cells.items + 2 ≤ active.old.cells.room }
     ensures acts { Acts C.left C.shown C.noted C.faults C.room Read next
@@ -185,6 +190,7 @@ fn push_read<C: Console>(next: usize, active: &mut Active, console: &mut C) -> R
 }
 
 /// Does a turn. Behind it, unless it jumps, the code goes on at `next`.
+#[inline(always)]
 pub(crate) fn act<C: Console>(
     turn: Turn,
     next: usize,

@@ -12,7 +12,7 @@ use crate::turn::execute;
 use host_face::Console;
 use image_check::Checked;
 use image_form::{Image, Method};
-use image_instr::decode_at;
+use image_instr::decode_known;
 use mote_model::Ending;
 use std::alloc::Global;
 use std::marker::Model;
@@ -86,14 +86,14 @@ impl Mote {
         }
         self.active.start(main.cell_locals, ticks);
         let code = main.code.as_slice();
-        while let Some((insn, size)) = decode_at(code, self.active.pc) {
+        loop {
+            let (insn, size) = decode_known(code, self.active.pc);
             let turn = execute(code, self.active.pc, insn, &mut self.active.cells);
             let next = self.active.pc + size;
             if let Err(ending) = act(turn, next, &mut self.active, console) {
                 return ending;
             }
         }
-        unreachable!()
     }
 }
 

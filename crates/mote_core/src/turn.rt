@@ -52,6 +52,7 @@ const WRITE: u16 = 1;
 const READ: u16 = 2;
 
 /// The operation on ints that an instruction names.
+#[inline(always)]
 fn operator(operation: Operation) -> BinOp
     ensures { result ≡ op_of operation }
 {
@@ -71,6 +72,7 @@ fn operator(operation: Operation) -> BinOp
 }
 
 /// The condition on ints that an instruction names.
+#[inline(always)]
 fn comparison(condition: Condition) -> Cond
     ensures { result ≡ cond_of condition }
 {
@@ -85,6 +87,7 @@ fn comparison(condition: Condition) -> Cond
 }
 
 /// Replaces the two numbers on top by what an operation gives of them.
+#[inline(always)]
 fn binary(cells: &mut Cells, operation: Operation) -> Turn
     requires { 4 ≤ length cells.old.items }
     ensures turn { (rest : List ℕ) (left_low left_high low high : ℕ)
@@ -107,6 +110,7 @@ fn binary(cells: &mut Cells, operation: Operation) -> Turn
 }
 
 /// Negates the number on top.
+#[inline(always)]
 fn negate(cells: &mut Cells)
     requires { 2 ≤ length cells.old.items }
     ensures items { (rest : List ℕ) (low high : ℕ) → cells.old.items ≡ rest ++ low ∷ high ∷ []
@@ -118,6 +122,7 @@ fn negate(cells: &mut Cells)
 }
 
 /// Makes the cell on top a number, by its sign.
+#[inline(always)]
 fn extend_sign(cells: &mut Cells)
     requires some { 1 ≤ length cells.old.items }
     requires room { length cells.old.items + 1 ≤ cells.old.room }
@@ -130,6 +135,7 @@ fn extend_sign(cells: &mut Cells)
 }
 
 /// Makes the cell on top a number, by zero.
+#[inline(always)]
 fn extend_zero(cells: &mut Cells)
     requires some { 1 ≤ length cells.old.items }
     requires room { length cells.old.items + 1 ≤ cells.old.room }
@@ -142,6 +148,7 @@ fn extend_zero(cells: &mut Cells)
 }
 
 /// Extends the sign of the low byte of the cell on top.
+#[inline(always)]
 fn extend_byte(cells: &mut Cells)
     requires { 1 ≤ length cells.old.items }
     ensures items { (rest : List ℕ) (cell : ℕ) → cells.old.items ≡ rest ++ cell ∷ []
@@ -154,6 +161,7 @@ fn extend_byte(cells: &mut Cells)
 }
 
 /// Jumps if a test holds.
+#[inline(always)]
 fn jump_if(holds: bool, target: u16) -> Turn
     ensures { result ≡ (if holds then Jump target else Next) }
 {
@@ -165,6 +173,7 @@ fn jump_if(holds: bool, target: u16) -> Turn
 }
 
 /// Compares the number on top with 0.
+#[inline(always)]
 fn test(cells: &mut Cells, condition: Condition) -> bool
     requires { 2 ≤ length cells.old.items }
     ensures test { (rest : List ℕ) (low high : ℕ) → cells.old.items ≡ rest ++ low ∷ high ∷ []
@@ -176,6 +185,7 @@ fn test(cells: &mut Cells, condition: Condition) -> bool
 }
 
 /// Compares the two numbers on top.
+#[inline(always)]
 fn compare(cells: &mut Cells, condition: Condition) -> bool
     requires { 4 ≤ length cells.old.items }
     ensures test { (rest : List ℕ) (left_low left_high low high : ℕ)
@@ -222,6 +232,7 @@ fn native(cells: &mut Cells, method: u16) -> Turn
 }
 
 /// Does what an instruction does to the cells, and answers the turn that control takes.
+#[inline(always)]
 pub(crate) fn execute(code: &[u8], pc: usize, insn: MInsn, cells: &mut Cells) -> Turn
     requires found { IsFound code.now pc insn }
     requires runs { Runs insn cells.old.items cells.old.room }

@@ -2,7 +2,7 @@ use Rattle.std.proofs.Common.{◌≡◌, ◌+◌, ◌≤◌, ◌<◌, Some, sym,
 use Rattle.image_form.specs.Grammar.{IsImage}
 use Rattle.image_check.specs.Checked.{IsChecked, IsBuilt}
 use Rattle.mote_model.specs.Machine.{method_of, frame_cells}
-use Rattle.mote_core.proofs.Going.{going-start, ran-tall, runs-at, none-at, on-at, ends-at}
+use Rattle.mote_core.proofs.Going.{going-start, ran-tall, runs-at, there-at, on-at, ends-at}
 use Rattle.mote_core.proofs.mote.Mote.run.Goals as goal
 
 pub returns-then-from-need-clause-ran : goal.returns-then-from-need-clause-ran
@@ -18,8 +18,8 @@ returns-then-from-need-clause-ran g c =
     (ran-tall C.left C.shown C.noted C.faults C.room ready (subst IsImage image_is c.image.ensures.image) (subst IsChecked image_is c.image.ensures.checked) (subst IsBuilt image_is c.image.ensures.built)
     c.args.ticks c.args.console.now main is_main tall)
 
-pub loop-insn-init : goal.loop-insn-init
-loop-insn-init g c =
+pub loop-ending-init : goal.loop-ending-init
+loop-ending-init g c =
     let C = g.C.Console in
     let ready = c.args.self.now in
     let main = c.main_method-main.result.now in
@@ -41,27 +41,26 @@ execute-turn-requires-clause-runs g c =
     let image_is : c.self.inside.checked ≡ ready.image = ap (λ r. r.image) c.self.view_is in
     let stack_is : c.self.inside.stack ≡ ready.stack = ap (λ r. r.stack) c.self.view_is in
     let is_main = subst (λ image. method_of image image.main ≡ Some main) (c.image.ensures.all ∙ image_is) c.main_method-main.ensures in
-    let active = c.loop-insn.self-inside.1.1.1.1.0 in
-    let fits : main.body ≤ active.cells.room = omega (arith, c.if-from-need.false, c.from.ensures, c.from-need.ensures, stack_is, c.loop-insn.invariant.room) in
+    let active = c.loop-ending.self-inside.1.1.1.1.0 in
+    let fits : main.body ≤ active.cells.room = omega (arith, c.if-from-need.false, c.from.ensures, c.from-need.ensures, stack_is, c.loop-ending.invariant.room) in
     runs-at C.left C.shown C.noted C.faults C.room ready (subst IsImage image_is c.image.ensures.image) (subst IsChecked image_is c.image.ensures.checked) (subst IsBuilt image_is c.image.ensures.built)
-    c.args.ticks c.args.console.now main is_main c.as_slice-code.result.now c.as_slice-code.ensures c.loop-insn.console _ c.loop-insn.invariant.going
-    c.in-Some.insn c.in-Some.size active.cells.room (sym c.decode_at.ensures.exact ∙ c.in-Some.is) fits
+    c.args.ticks c.args.console.now main is_main c.as_slice-code.result.now c.as_slice-code.ensures c.loop-ending.console _ c.loop-ending.invariant.going
+    c.decode_known-insn.result.0 c.decode_known-insn.result.1 active.cells.room c.decode_known-insn.ensures.exact fits
 
-pub unreachable-requires : goal.unreachable-requires
-unreachable-requires g c =
+pub decode_known-insn-requires : goal.decode_known-insn-requires
+decode_known-insn-requires g c =
     let C = g.C.Console in
     let ready = c.args.self.now in
     let main = c.main_method-main.result.now in
     let image_is : c.self.inside.checked ≡ ready.image = ap (λ r. r.image) c.self.view_is in
     let is_main = subst (λ image. method_of image image.main ≡ Some main) (c.image.ensures.all ∙ image_is) c.main_method-main.ensures in
-    none-at C.left C.shown C.noted C.faults C.room ready (subst IsImage image_is c.image.ensures.image) (subst IsChecked image_is c.image.ensures.checked) (subst IsBuilt image_is c.image.ensures.built)
-    c.args.ticks c.args.console.now main is_main c.as_slice-code.result.now c.as_slice-code.ensures c.loop-insn.console _ c.loop-insn.invariant.going
-    (sym c.decode_at.ensures.exact ∙ c.in_default.is)
+    there-at C.left C.shown C.noted C.faults C.room ready (subst IsImage image_is c.image.ensures.image) (subst IsChecked image_is c.image.ensures.checked) (subst IsBuilt image_is c.image.ensures.built)
+    c.args.ticks c.args.console.now main is_main c.as_slice-code.result.now c.as_slice-code.ensures c.loop-ending.console _ c.loop-ending.invariant.going
 
 pub invariant_of-self : goal.invariant_of-self
 invariant_of-self g c =
     let stack_is : c.self.inside.stack ≡ c.args.self.now.stack = ap (λ r. r.stack) c.self.view_is in
-    omega (arith, c.loop-insn.invariant.room, c.execute-turn.ensures.room, c.act.ensures.room, stack_is)
+    omega (arith, c.loop-ending.invariant.room, c.execute-turn.ensures.room, c.act.ensures.room, stack_is)
 
 pub returns-in-Err-clause-ran : goal.returns-in-Err-clause-ran
 returns-in-Err-clause-ran g c =
@@ -71,12 +70,12 @@ returns-in-Err-clause-ran g c =
     let image_is : c.self.inside.checked ≡ ready.image = ap (λ r. r.image) c.self.view_is in
     let stack_is : c.self.inside.stack ≡ ready.stack = ap (λ r. r.stack) c.self.view_is in
     let is_main = subst (λ image. method_of image image.main ≡ Some main) (c.image.ensures.all ∙ image_is) c.main_method-main.ensures in
-    let active = c.loop-insn.self-inside.1.1.1.1.0 in
-    let fits : main.body ≤ active.cells.room = omega (arith, c.if-from-need.false, c.from.ensures, c.from-need.ensures, stack_is, c.loop-insn.invariant.room) in
+    let active = c.loop-ending.self-inside.1.1.1.1.0 in
+    let fits : main.body ≤ active.cells.room = omega (arith, c.if-from-need.false, c.from.ensures, c.from-need.ensures, stack_is, c.loop-ending.invariant.room) in
     (ends-at C.left C.shown C.noted C.faults C.room ready (subst IsImage image_is c.image.ensures.image) (subst IsChecked image_is c.image.ensures.checked) (subst IsBuilt image_is c.image.ensures.built)
-    c.args.ticks c.args.console.now main is_main c.as_slice-code.result.now c.as_slice-code.ensures c.loop-insn.console _ c.loop-insn.invariant.going
-    c.act.new.console _ c.execute-turn.new.cells.items c.in-Some.insn c.in-Some.size active.cells.room c.execute-turn.result
-    (sym c.decode_at.ensures.exact ∙ c.in-Some.is) fits c.execute-turn.ensures.turn c.in-Err.ending c.in-Err.ensures.acts).0
+    c.args.ticks c.args.console.now main is_main c.as_slice-code.result.now c.as_slice-code.ensures c.loop-ending.console _ c.loop-ending.invariant.going
+    c.act.new.console _ c.execute-turn.new.cells.items c.decode_known-insn.result.0 c.decode_known-insn.result.1 active.cells.room c.execute-turn.result
+    c.decode_known-insn.ensures.exact fits c.execute-turn.ensures.turn c.in-Err.ending c.in-Err.ensures.acts).0
 
 pub returns-in-Err-clause-so_far : goal.returns-in-Err-clause-so_far
 returns-in-Err-clause-so_far g c =
@@ -86,40 +85,40 @@ returns-in-Err-clause-so_far g c =
     let image_is : c.self.inside.checked ≡ ready.image = ap (λ r. r.image) c.self.view_is in
     let stack_is : c.self.inside.stack ≡ ready.stack = ap (λ r. r.stack) c.self.view_is in
     let is_main = subst (λ image. method_of image image.main ≡ Some main) (c.image.ensures.all ∙ image_is) c.main_method-main.ensures in
-    let active = c.loop-insn.self-inside.1.1.1.1.0 in
-    let fits : main.body ≤ active.cells.room = omega (arith, c.if-from-need.false, c.from.ensures, c.from-need.ensures, stack_is, c.loop-insn.invariant.room) in
+    let active = c.loop-ending.self-inside.1.1.1.1.0 in
+    let fits : main.body ≤ active.cells.room = omega (arith, c.if-from-need.false, c.from.ensures, c.from-need.ensures, stack_is, c.loop-ending.invariant.room) in
     (ends-at C.left C.shown C.noted C.faults C.room ready (subst IsImage image_is c.image.ensures.image) (subst IsChecked image_is c.image.ensures.checked) (subst IsBuilt image_is c.image.ensures.built)
-    c.args.ticks c.args.console.now main is_main c.as_slice-code.result.now c.as_slice-code.ensures c.loop-insn.console _ c.loop-insn.invariant.going
-    c.act.new.console _ c.execute-turn.new.cells.items c.in-Some.insn c.in-Some.size active.cells.room c.execute-turn.result
-    (sym c.decode_at.ensures.exact ∙ c.in-Some.is) fits c.execute-turn.ensures.turn c.in-Err.ending c.in-Err.ensures.acts).1
+    c.args.ticks c.args.console.now main is_main c.as_slice-code.result.now c.as_slice-code.ensures c.loop-ending.console _ c.loop-ending.invariant.going
+    c.act.new.console _ c.execute-turn.new.cells.items c.decode_known-insn.result.0 c.decode_known-insn.result.1 active.cells.room c.execute-turn.result
+    c.decode_known-insn.ensures.exact fits c.execute-turn.ensures.turn c.in-Err.ending c.in-Err.ensures.acts).1
 
-pub loop-insn-smaller : goal.loop-insn-smaller
-loop-insn-smaller g c =
+pub loop-ending-smaller : goal.loop-ending-smaller
+loop-ending-smaller g c =
     let C = g.C.Console in
     let ready = c.args.self.now in
     let main = c.main_method-main.result.now in
     let image_is : c.self.inside.checked ≡ ready.image = ap (λ r. r.image) c.self.view_is in
     let stack_is : c.self.inside.stack ≡ ready.stack = ap (λ r. r.stack) c.self.view_is in
     let is_main = subst (λ image. method_of image image.main ≡ Some main) (c.image.ensures.all ∙ image_is) c.main_method-main.ensures in
-    let active = c.loop-insn.self-inside.1.1.1.1.0 in
-    let fits : main.body ≤ active.cells.room = omega (arith, c.if-from-need.false, c.from.ensures, c.from-need.ensures, stack_is, c.loop-insn.invariant.room) in
+    let active = c.loop-ending.self-inside.1.1.1.1.0 in
+    let fits : main.body ≤ active.cells.room = omega (arith, c.if-from-need.false, c.from.ensures, c.from-need.ensures, stack_is, c.loop-ending.invariant.room) in
     (on-at C.left C.shown C.noted C.faults C.room ready (subst IsImage image_is c.image.ensures.image) (subst IsChecked image_is c.image.ensures.checked) (subst IsBuilt image_is c.image.ensures.built)
-    c.args.ticks c.args.console.now main is_main c.as_slice-code.result.now c.as_slice-code.ensures c.loop-insn.console _ c.loop-insn.invariant.going
-    c.act.new.console _ c.execute-turn.new.cells.items c.in-Some.insn c.in-Some.size active.cells.room c.execute-turn.result
-    (sym c.decode_at.ensures.exact ∙ c.in-Some.is) fits c.execute-turn.ensures.turn c.in_default-act.ensures.acts).1
+    c.args.ticks c.args.console.now main is_main c.as_slice-code.result.now c.as_slice-code.ensures c.loop-ending.console _ c.loop-ending.invariant.going
+    c.act.new.console _ c.execute-turn.new.cells.items c.decode_known-insn.result.0 c.decode_known-insn.result.1 active.cells.room c.execute-turn.result
+    c.decode_known-insn.ensures.exact fits c.execute-turn.ensures.turn c.in_default.ensures.acts).1
 
-pub loop-insn-preserved : goal.loop-insn-preserved
-loop-insn-preserved g c =
+pub loop-ending-preserved : goal.loop-ending-preserved
+loop-ending-preserved g c =
     let C = g.C.Console in
     let ready = c.args.self.now in
     let main = c.main_method-main.result.now in
     let image_is : c.self.inside.checked ≡ ready.image = ap (λ r. r.image) c.self.view_is in
     let stack_is : c.self.inside.stack ≡ ready.stack = ap (λ r. r.stack) c.self.view_is in
     let is_main = subst (λ image. method_of image image.main ≡ Some main) (c.image.ensures.all ∙ image_is) c.main_method-main.ensures in
-    let active = c.loop-insn.self-inside.1.1.1.1.0 in
-    let fits : main.body ≤ active.cells.room = omega (arith, c.if-from-need.false, c.from.ensures, c.from-need.ensures, stack_is, c.loop-insn.invariant.room) in
+    let active = c.loop-ending.self-inside.1.1.1.1.0 in
+    let fits : main.body ≤ active.cells.room = omega (arith, c.if-from-need.false, c.from.ensures, c.from-need.ensures, stack_is, c.loop-ending.invariant.room) in
     let on = (on-at C.left C.shown C.noted C.faults C.room ready (subst IsImage image_is c.image.ensures.image) (subst IsChecked image_is c.image.ensures.checked) (subst IsBuilt image_is c.image.ensures.built)
-    c.args.ticks c.args.console.now main is_main c.as_slice-code.result.now c.as_slice-code.ensures c.loop-insn.console _ c.loop-insn.invariant.going
-    c.act.new.console _ c.execute-turn.new.cells.items c.in-Some.insn c.in-Some.size active.cells.room c.execute-turn.result
-    (sym c.decode_at.ensures.exact ∙ c.in-Some.is) fits c.execute-turn.ensures.turn c.in_default-act.ensures.acts) in
-    record { going = on.0; room = omega (arith, c.loop-insn.invariant.room, c.execute-turn.ensures.room, c.act.ensures.room) }
+    c.args.ticks c.args.console.now main is_main c.as_slice-code.result.now c.as_slice-code.ensures c.loop-ending.console _ c.loop-ending.invariant.going
+    c.act.new.console _ c.execute-turn.new.cells.items c.decode_known-insn.result.0 c.decode_known-insn.result.1 active.cells.room c.execute-turn.result
+    c.decode_known-insn.ensures.exact fits c.execute-turn.ensures.turn c.in_default.ensures.acts) in
+    record { going = on.0; room = omega (arith, c.loop-ending.invariant.room, c.execute-turn.ensures.room, c.act.ensures.room) }
