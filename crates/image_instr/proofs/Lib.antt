@@ -10,4 +10,3 @@ pub mod Targets
 pub mod SwitchPrefix
 pub mod EncodingIsInjective
 pub mod Written
-pub mod Known

@@ -1,6 +1,6 @@
 //! The operands at the prefix of the bytes after an opcode.
 
-ghost use Rattle.std.specs.Prelude.{◌≡◌, ◌≤◌, ◌+◌, length, OnSome, IfSome};
+ghost use Rattle.std.specs.Prelude.{◌≡◌, ◌≤◌, ◌+◌, length, Some, OnSome, IfSome, IsSome};
 ghost use Rattle.image_instr.specs.Reading.{u1_in, u2_in, u4_in, i1_in, i2_in, i4_in, index_in, halves_in};
 
 use byteorder::{BigEndian, ByteOrder};
@@ -78,4 +78,29 @@ pub(crate) fn halves(operands: &[u8]) -> Option<(u8, u8)>
 {
     let byte = u1(operands)?;
     Some((byte / 16, byte % 16))
+}
+
+/// A number of two bytes that is there.
+#[inline(always)]
+pub(crate) fn known_u2(operands: &[u8]) -> u16
+    requires { IsSome (u2_in operands.now) }
+    ensures { u2_in operands.now ≡ Some result }
+{
+    BigEndian::read_u16(operands)
+}
+
+/// An index that is there, and the size of an instruction that ends with it.
+#[inline(always)]
+pub(crate) fn known_index(operands: &[u8]) -> (u16, usize)
+    requires { IsSome (index_in operands.now) }
+    ensures value { index_in operands.now ≡ Some result }
+    ensures size { (2 ≤ result.1) × (result.1 ≤ 4) }
+    ensures there { result.1 ≤ length operands.now + 1 }
+{
+    let byte = operands[0];
+    if byte < 255 {
+        (u16::from(byte), 2)
+    } else {
+        (BigEndian::read_u16(&operands[1..]), 4)
+    }
 }

@@ -1,15 +1,16 @@
 //! The instruction that is at a place of the code, family by family.
 
 ghost use Rattle.std.specs.Prelude.{◌≡◌, ℕ, Some, List, drop, IfSome, IfNone, IsSome, option_map};
-ghost use Rattle.image_instr.specs.Reading.{insn_at, rows_at, insn_in, constant_in, local_in, stack_in, number_in, jump_in, ret_in, static_in, field_in, array_in, element_in, object_in, load_in, store_in, rclear_in, inc_in, rdupx_in, dupx_in, rpop_in, pop_in, swap_in, drop_in, u2_in, rj_in, get_static_in, put_static_in, get_field_in, put_field_in, multi_in, calli_in, new_array_in};
-ghost use Rattle.image_instr.specs.declared.insn.MInsn.TheVariants.{Bin, Jz, JCmp, ALoad, AStore};
+ghost use Rattle.image_instr.specs.Reading.{insn_at, rows_at, insn_in, constant_in, local_in, stack_in, number_in, jump_in, ret_in, static_in, field_in, array_in, element_in, object_in, load_in, store_in, rclear_in, inc_in, rdupx_in, dupx_in, rpop_in, pop_in, swap_in, drop_in, u2_in, i1_in, i2_in, i4_in, rj_in, get_static_in, put_static_in, get_field_in, put_field_in, multi_in, calli_in, new_array_in};
+ghost use Rattle.image_instr.specs.declared.insn.MInsn.TheVariants.{Const2, Small2, Mid2, Bin, Jz, JCmp, Goto, ALoad, AStore};
 ghost use Rattle.image_instr.specs.Insn.{HoldsAt};
 ghost use Rattle.image_instr.specs.declared.insn.SwitchRow.{SwitchRow};
 ghost use Rattle.image_instr.specs.declared.insn.MInsn.{MInsn};
 
 use crate::insn::{Condition, Element, Kind, MInsn, Operation, RefTest, Width};
-use crate::operand::{halves, i1, i2, i4, index, u1, u2};
+use crate::operand::{halves, i1, i2, i4, index, known_index, known_u2, u1, u2};
 use crate::switch::{known_switch, switch, table};
+use byteorder::{BigEndian, ByteOrder};
 
 #[inline(always)]
 fn load(kind: Kind, operands: &[u8]) -> Option<(MInsn, usize)>
@@ -613,19 +614,167 @@ fn insn(opcode: u8, operands: &[u8]) -> Option<(MInsn, usize)>
     }
 }
 
-/// An instruction that is known to be there: the keys of a switch are not tested again.
+/// CONST2 that is there.
 #[inline(always)]
+fn known_const(operands: &[u8]) -> (MInsn, usize)
+    requires { IsSome (i4_in operands.now) }
+    ensures { option_map (λ value. (Const2 value, 5)) (i4_in operands.now) ≡ Some result }
+{
+    let value = BigEndian::read_u32(operands).cast_signed();
+    (MInsn::Const2 { value }, 5)
+}
+
+/// SMALL2 that is there.
+#[inline(always)]
+fn known_small(operands: &[u8]) -> (MInsn, usize)
+    requires { IsSome (i1_in operands.now) }
+    ensures { option_map (λ value. (Small2 value, 2)) (i1_in operands.now) ≡ Some result }
+{
+    let value = operands[0].cast_signed();
+    (MInsn::Small2 { value }, 2)
+}
+
+/// MID2 that is there.
+#[inline(always)]
+fn known_mid(operands: &[u8]) -> (MInsn, usize)
+    requires { IsSome (i2_in operands.now) }
+    ensures { option_map (λ value. (Mid2 value, 3)) (i2_in operands.now) ≡ Some result }
+{
+    let value = BigEndian::read_u16(operands).cast_signed();
+    (MInsn::Mid2 { value }, 3)
+}
+
+#[inline(always)]
+fn known_load(kind: Kind, operands: &[u8]) -> (MInsn, usize)
+    requires { IsSome (load_in kind operands.now) }
+    ensures { load_in kind operands.now ≡ Some result }
+{
+    let (local, size) = known_index(operands);
+    (MInsn::Load { kind, local }, size)
+}
+
+#[inline(always)]
+fn known_store(kind: Kind, operands: &[u8]) -> (MInsn, usize)
+    requires { IsSome (store_in kind operands.now) }
+    ensures { store_in kind operands.now ≡ Some result }
+{
+    let (local, size) = known_index(operands);
+    (MInsn::Store { kind, local }, size)
+}
+
+#[inline(always)]
+fn known_inc(width: Width, operands: &[u8]) -> (MInsn, usize)
+    requires { IsSome (inc_in width operands.now) }
+    ensures { inc_in width operands.now ≡ Some result }
+{
+    let (local, size) = known_index(operands);
+    let amount = BigEndian::read_u16(&operands[size - 1..]).cast_signed();
+    let insn = MInsn::Inc {
+        width,
+        local,
+        amount,
+    };
+    (insn, size + 2)
+}
+
+#[inline(always)]
+fn known_bin(width: Width, operation: Operation) -> MInsn
+    ensures { result ≡ Bin width operation }
+{
+    MInsn::Bin { width, operation }
+}
+
+#[inline(always)]
+fn known_jz(width: Width, condition: Condition, operands: &[u8]) -> (MInsn, usize)
+    requires { IsSome (u2_in operands.now) }
+    ensures { option_map (λ target. (Jz width condition target, 3)) (u2_in operands.now) ≡ Some result }
+{
+    let target = known_u2(operands);
+    let insn = MInsn::Jz {
+        width,
+        condition,
+        target,
+    };
+    (insn, 3)
+}
+
+#[inline(always)]
+fn known_jcmp(width: Width, condition: Condition, operands: &[u8]) -> (MInsn, usize)
+    requires { IsSome (u2_in operands.now) }
+    ensures { option_map (λ target. (JCmp width condition target, 3)) (u2_in operands.now) ≡ Some result }
+{
+    let target = known_u2(operands);
+    let insn = MInsn::JCmp {
+        width,
+        condition,
+        target,
+    };
+    (insn, 3)
+}
+
+#[inline(always)]
+fn known_goto(operands: &[u8]) -> (MInsn, usize)
+    requires { IsSome (u2_in operands.now) }
+    ensures { option_map (λ target. (Goto target, 3)) (u2_in operands.now) ≡ Some result }
+{
+    let target = known_u2(operands);
+    (MInsn::Goto { target }, 3)
+}
+
+/// An instruction that is known to be there and is none of the frequent ones.
+#[inline(never)]
+fn known_other(opcode: u8, operands: &[u8]) -> (MInsn, usize)
+    requires { IsSome (insn_in opcode operands.now) }
+    ensures { insn_in opcode operands.now ≡ Some result }
+{
+    match insn(opcode, operands) {
+        Some(found) => found,
+        None => unreachable!(),
+    }
+}
+
+/// An instruction that is known to be there. The frequent ones are read here, so that a caller's match on
+/// the answer folds; the keys of a switch are not tested again.
+#[inline(always)]
+#[tactic(auto, unfolding(crate::specs::Reading::insn_in, crate::specs::Reading::constant_in, crate::specs::Reading::local_in, crate::specs::Reading::number_in, crate::specs::Reading::jump_in))]
 fn known(opcode: u8, operands: &[u8]) -> (MInsn, usize)
     requires { IsSome (insn_in opcode operands.now) }
     ensures { insn_in opcode operands.now ≡ Some result }
 {
     match opcode {
+        0x02 => known_const(operands),
+        0x04 => known_small(operands),
+        0x05 => known_mid(operands),
+        0x0b => known_load(Kind::Two, operands),
+        0x0d => known_store(Kind::Two, operands),
+        0x0f => known_inc(Width::Two, operands),
+        0x30 => (known_bin(Width::Two, Operation::Add), 1),
+        0x31 => (known_bin(Width::Two, Operation::Sub), 1),
+        0x32 => (known_bin(Width::Two, Operation::Mul), 1),
+        0x33 => (known_bin(Width::Two, Operation::Div), 1),
+        0x34 => (known_bin(Width::Two, Operation::Rem), 1),
+        0x35 => (known_bin(Width::Two, Operation::Shl), 1),
+        0x36 => (known_bin(Width::Two, Operation::Shr), 1),
+        0x37 => (known_bin(Width::Two, Operation::Ushr), 1),
+        0x38 => (known_bin(Width::Two, Operation::And), 1),
+        0x39 => (known_bin(Width::Two, Operation::Or), 1),
+        0x3a => (known_bin(Width::Two, Operation::Xor), 1),
+        0x58 => known_jz(Width::Two, Condition::Eq, operands),
+        0x59 => known_jz(Width::Two, Condition::Ne, operands),
+        0x5a => known_jz(Width::Two, Condition::Lt, operands),
+        0x5b => known_jz(Width::Two, Condition::Ge, operands),
+        0x5c => known_jz(Width::Two, Condition::Gt, operands),
+        0x5d => known_jz(Width::Two, Condition::Le, operands),
+        0x68 => known_jcmp(Width::Two, Condition::Eq, operands),
+        0x69 => known_jcmp(Width::Two, Condition::Ne, operands),
+        0x6a => known_jcmp(Width::Two, Condition::Lt, operands),
+        0x6b => known_jcmp(Width::Two, Condition::Ge, operands),
+        0x6c => known_jcmp(Width::Two, Condition::Gt, operands),
+        0x6d => known_jcmp(Width::Two, Condition::Le, operands),
+        0x74 => known_goto(operands),
         0x75 => known_switch(Width::One, operands),
         0x76 => known_switch(Width::Two, operands),
-        _ => match insn(opcode, operands) {
-            Some(found) => found,
-            None => unreachable!(),
-        },
+        _ => known_other(opcode, operands),
     }
 }
 
