@@ -1,13 +1,13 @@
 -- Turns that are done over a console: what follows of them in the split machine.
 use Rattle.std.proofs.Common.{◌≡◌, ℕ, ℤ, ◌+◌, ◌<◌, ◌≤◌, Bool, true, false, List, [], ◌∷◌, ◌++◌, Option, Some, Result, Ok, Err, refl, sym, ap, subst, ◌∙◌, arith, rules, ◌⊎◌, inl, inr}
 use Rattle.std.specs.Prelude.{nat_le, nat_lt, option_map}
-use Rattle.dialogue.specs.Dialogue.{Item, Get, putting}
+use Rattle.dialogue.specs.Dialogue.{Item, Get, putting, gets, gets-putting}
 use Rattle.dialogue.specs.Limits.{Limits}
 use Rattle.dialogue.specs.Natives.{next_byte, after_byte}
 use Rattle.dialogue.specs.Run.{Step, Goes, Ends, Stuck}
 use Rattle.cell_num.specs.Cells.{low_cell, high_cell}
 use Rattle.host_face.specs.Talk.{Talked, BrokeOff}
-use Rattle.host_face.proofs.TalkLemmas.{Talked-nothing}
+use Rattle.host_face.proofs.TalkLemmas.{Talked-nothing, same-without}
 use Rattle.mote_model.specs.declared.ending.Ending.{Ending}
 use Rattle.mote_model.specs.declared.ending.Ending.TheVariants.{Done, Uncaught, Spent, ConsoleFault}
 use Rattle.mote_model.specs.State.{Frame, State}
@@ -19,6 +19,7 @@ use Rattle.mote_core.specs.Turns.{AreCells, meaning, with_top}
 use Rattle.mote_core.specs.Good.{IsStepEnding}
 use Rattle.mote_core.specs.Acts.{Place, IsPlaceOf, Tells, TellsNow, IsJump, IsRead, with_input, Went, Stopped, Shows, Acted, Acts}
 use Rattle.mote_core.proofs.Tops.{pushed}
+use Rattle.mote_core.proofs.Puts.{read-left}
 
 le_true : (a b : ℕ) → a ≤ b → nat_le a b ≡ true
 le_true a b le = search rules
@@ -59,19 +60,24 @@ module _ {C : Type 0} (left shown noted : C → Option (List ℕ)) (faults : C �
 
   went : (limits : Limits) (state : State) (frame : Frame) (next : ℕ) (turn : Turn) (locals operands : List ℕ) (old new : C) (after : Place) (items : List Item) (to : State)
       → meaning limits state frame next turn locals operands ≡ Goes items to → Tells (left old) state.input
-      → Talked shown noted faults room old new items → IsPlaceOf limits after to → left new ≡ left old → to.input ≡ state.input
+      → Talked shown noted faults room old new items → IsPlaceOf limits after to → left new ≡ left old → to.input ≡ state.input → gets items ≡ 0
       → Acted left shown noted faults room limits state frame next turn locals operands old new after (Ok tt)
-  went limits state frame next turn locals operands old new after items to e tells talked is same_left same_input =
+  went limits state frame next turn locals operands old new after items to e tells talked is same_left same_input none =
       record {
         input = state.input;
         tells = tells;
         shows = subst (λ step. Shows left shown noted faults room limits old new after step (Ok tt)) (sym e)
-            (record { talked = talked; is = is; tells = same_left ∙ tells ∙ ap (λ (input : List ℕ). option_map (λ _. input) (left old)) (sym same_input) });
+            (record {
+              talked = talked;
+              is = is;
+              tells = same_left ∙ tells ∙ ap (λ (input : List ℕ). option_map (λ _. input) (left old)) (sym same_input);
+              rest = same-without items (left old) (left new) none same_left;
+            });
       }
 
   broke : (limits : Limits) (state : State) (frame : Frame) (next : ℕ) (turn : Turn) (locals operands : List ℕ) (old new : C) (after : Place) (items : List Item) (to : State)
       → meaning limits state frame next turn locals operands ≡ Goes items to → Tells (left old) state.input
-      → BrokeOff shown noted faults room old new items
+      → BrokeOff left shown noted faults room old new items
       → Acted left shown noted faults room limits state frame next turn locals operands old new after (Err ConsoleFault)
   broke limits state frame next turn locals operands old new after items to e tells b =
       record {
@@ -85,7 +91,7 @@ module _ {C : Type 0} (left shown noted : C → Option (List ℕ)) (faults : C �
   pub acts-next : (next : ℕ) (before after : Place) (old : C) → after.pc ≡ next → after.cells ≡ before.cells → after.left ≡ before.left → ActsOn Next next before old old after (Ok tt)
   acts-next next before after old pc cells same limits state frame locals operands are at ticks tells =
       went limits state frame next Next locals operands old old after [] (with_frame state (at_cells frame next locals operands) []) refl tells (Talked-nothing shown noted faults room old)
-      (record { frame = at_cells frame next locals operands; frames = refl; pc = pc; cells = cells ∙ are; left = omega (arith, same, ticks) }) refl refl
+      (record { frame = at_cells frame next locals operands; frames = refl; pc = pc; cells = cells ∙ are; left = omega (arith, same, ticks) }) refl refl refl
 
   pub acts-throw : (class next : ℕ) → class ≡ 4 → (before after : Place) (old : C) → ActsOn (Throw class) next before old old after (Err (Uncaught class))
   acts-throw class next is before after old limits state frame locals operands are at ticks tells =
@@ -99,11 +105,11 @@ module _ {C : Type 0} (left shown noted : C → Option (List ℕ)) (faults : C �
   acts-jump target next before after old (Ok ok) (pc, inl (forward, same)) cells limits state frame locals operands are at ticks tells =
       went limits state frame next (Jump target) locals operands old old after [] (with_frame state (at_cells frame target locals operands) [])
       (rw (lt_true frame.pc target (omega (arith, at, forward))) refl) tells (Talked-nothing shown noted faults room old)
-      (record { frame = at_cells frame target locals operands; frames = refl; pc = pc; cells = cells ∙ are; left = omega (arith, same, ticks) }) refl refl
+      (record { frame = at_cells frame target locals operands; frames = refl; pc = pc; cells = cells ∙ are; left = omega (arith, same, ticks) }) refl refl refl
   acts-jump target next before after old (Ok ok) (pc, inr (back, tick)) cells limits state frame locals operands are at ticks tells =
       went limits state frame next (Jump target) locals operands old old after [] (with_frame (ticked state) (at_cells frame target locals operands) [])
       (rw (lt_false frame.pc target (omega (arith, at, back))) (budget-there limits state _ before.left after.left tick ticks)) tells (Talked-nothing shown noted faults room old)
-      (record { frame = at_cells frame target locals operands; frames = refl; pc = pc; cells = cells ∙ are; left = omega (arith, tick, ticks) }) refl refl
+      (record { frame = at_cells frame target locals operands; frames = refl; pc = pc; cells = cells ∙ are; left = omega (arith, tick, ticks) }) refl refl refl
   acts-jump target next before after old (Err ending) (is, (back, none)) cells limits state frame locals operands are at ticks tells =
       rw is (ended limits state frame next (Jump target) locals operands old after Spent (rw (lt_false frame.pc target (omega (arith, at, back))) (budget-spent limits state _ before.left none ticks)) tt tells)
 
@@ -125,10 +131,10 @@ module _ {C : Type 0} (left shown noted : C → Option (List ℕ)) (faults : C �
   acts-show turn bytes next is before after old new tick pc cells talked same_left limits state frame locals operands are at ticks tells =
       went limits state frame next turn locals operands old new after (putting bytes) (with_frame (ticked state) (at_cells frame next locals operands) [])
       (is limits state frame locals operands ∙ budget-there limits state _ before.left after.left tick ticks) tells talked
-      (record { frame = at_cells frame next locals operands; frames = refl; pc = pc; cells = cells ∙ are; left = omega (arith, tick, ticks) }) same_left refl
+      (record { frame = at_cells frame next locals operands; frames = refl; pc = pc; cells = cells ∙ are; left = omega (arith, tick, ticks) }) same_left refl (gets-putting bytes)
 
   pub acts-show-broke : (turn : Turn) (bytes : List ℕ) (next : ℕ) → ShowsBytes turn bytes next → (before after : Place) (old new : C)
-      → before.left ≡ after.left + 1 → BrokeOff shown noted faults room old new (putting bytes) → ActsOn turn next before old new after (Err ConsoleFault)
+      → before.left ≡ after.left + 1 → BrokeOff left shown noted faults room old new (putting bytes) → ActsOn turn next before old new after (Err ConsoleFault)
   acts-show-broke turn bytes next is before after old new tick b limits state frame locals operands are at ticks tells =
       broke limits state frame next turn locals operands old new after (putting bytes) (with_frame (ticked state) (at_cells frame next locals operands) [])
       (is limits state frame locals operands ∙ budget-there limits state _ before.left after.left tick ticks) tells b
@@ -138,7 +144,7 @@ module _ {C : Type 0} (left shown noted : C → Option (List ℕ)) (faults : C �
       ended limits state frame next Read locals operands old after Spent (budget-spent limits state _ before.left none ticks) tt tells
 
   pub acts-read-broke : (next : ℕ) (before after : Place) (old new : C)
-      → before.left ≡ after.left + 1 → BrokeOff shown noted faults room old new (Get ∷ []) → ActsOn Read next before old new after (Err ConsoleFault)
+      → before.left ≡ after.left + 1 → BrokeOff left shown noted faults room old new (Get ∷ []) → ActsOn Read next before old new after (Err ConsoleFault)
   acts-read-broke next before after old new tick b limits state frame locals operands are at ticks tells =
       broke limits state frame next Read locals operands old new after (Get ∷ []) _ (budget-there limits state _ before.left after.left tick ticks) tells b
 
@@ -161,5 +167,6 @@ module _ {C : Type 0} (left shown noted : C → Option (List ℕ)) (faults : C �
                 left = omega (arith, tick, ticks);
               };
               tells = read.now;
+              rest = read-left (left old) (left new) number read;
             });
       }

@@ -1,15 +1,15 @@
 -- A run over a console, step by step: what it has said, and the state of the split machine that it is in.
 use Rattle.std.proofs.Common.{◌≡◌, ℕ, zero, suc, ◌+◌, ◌-◌, ◌*◌, ◌<◌, ◌≤◌, Bool, true, false, cond, List, [], ◌∷◌, ◌++◌, length, drop, Option, Some, None, Result, Ok, Err, refl, sym, ap, subst, ◌∙◌, arith, rules}
-use Rattle.std.specs.Prelude.{IfSome, nat_le, option_map, replicate}
+use Rattle.std.specs.Prelude.{IfSome, IsSome, nat_le, option_map, replicate}
 use Rattle.std.proofs.lemmas.List.{append-nil}
 use Rattle.std.proofs.lemmas.Option.{none-some, some_pair_parts}
-use Rattle.dialogue.specs.Dialogue.{Item}
+use Rattle.dialogue.specs.Dialogue.{Item, gets}
 use Rattle.dialogue.specs.Limits.{Limits}
 use Rattle.dialogue.specs.Outcome.{Outcome}
 use Rattle.dialogue.specs.Run.{Step, Goes, Ends, Stuck, Progress, Running, Over, advance, after_step, run_from}
 use Rattle.dialogue.proofs.Simulation.{run_from-more}
-use Rattle.host_face.specs.Talk.{Talked, BrokeOff}
-use Rattle.host_face.proofs.TalkLemmas.{Talked-nothing, Talked-then, BrokeOff-then, BrokeOff-prefix}
+use Rattle.host_face.specs.Talk.{Talked, BrokeOff, without_first}
+use Rattle.host_face.proofs.TalkLemmas.{Talked-nothing, Talked-then, BrokeOff-then, BrokeOff-prefix, without_first-none, without_gets}
 use Rattle.image_instr.specs.declared.insn.MInsn.{MInsn}
 use Rattle.image_instr.specs.Reading.{insn_at, rows_at}
 use Rattle.image_form.specs.declared.record.Image.{Image}
@@ -51,6 +51,11 @@ le_true a b le = search rules
 le_false : (a b : ℕ) → b < a → nat_le a b ≡ false
 le_false a b lt = search rules
 
+-- what is not nothing is something
+not_none : {A : Type 0} (o : Option A) → (o ≡ None → ⊥) → IsSome o
+not_none None not = absurd (not refl)
+not_none (Some x) not = refl
+
 -- where an option is told, a fact of what it tells
 if_told : {A : Type 0} (o : Option A) (P : A → Type 0) → ((x : A) → o ≡ Some x → P x) → IfSome o P
 if_told None P h = tt
@@ -65,6 +70,7 @@ pub record Going {C : Type 0} (left shown noted : C → Option (List ℕ)) (faul
   pub talked : Talked shown noted faults room old now said
   pub come : (input : List ℕ) → left old ≡ Some input → HasCome image limits input said state
   pub tells : TellsNow (left old) (left now) state.input
+  pub rest : left now ≡ without_first (gets said) (left old)
 
 tells-then : (old now new : Option (List ℕ)) (x y : List ℕ) → TellsNow old now x → TellsNow now new y → TellsNow old new y
 tells-then None now new x y first second = second ∙ ap (option_map (λ _. y)) first
@@ -112,8 +118,8 @@ module _ (image : Image) (limits : Limits) (state : State) (place : Place) (is :
       subst (λ insn. CanRun insn good.frame capacity) (some_pair_parts right.insn insn right.size size (sym right.found ∙ found)).0 can
 
   -- an instruction is at its pc
-  pub not_none : IsChecked image → IsBuilt image → insn_at (drop good.frame.pc good.method.code) ≡ None → ⊥
-  not_none checked built none =
+  pub is_there : IsChecked image → IsBuilt image → insn_at (drop good.frame.pc good.method.code) ≡ None → ⊥
+  is_there checked built none =
       none-some _ (sym none ∙ (holds_here image checked built state good).right.found)
 
 -- the input does not count
@@ -156,6 +162,7 @@ module _ {C : Type 0} (left shown noted : C → Option (List ℕ)) (faults : C �
             let come = g.come start told in
             record { steps = come.steps; running = come.running ∙ ap (λ (x : List ℕ). Running g.said (with_input g.state x)) same };
         tells = tells-then (left old) (left now) (left now) g.state.input input g.tells tells;
+        rest = g.rest;
       }
 
   -- what an instruction and its turn show is the step of the split machine, on an input that the console
@@ -184,9 +191,9 @@ module _ {C : Type 0} (left shown noted : C → Option (List ℕ)) (faults : C �
         record { frame = g.good.frame; are = cells_are ready.image (limits_of ready ticks) g.state before g.is g.good; can = can-at insn size capacity found fits }
 
     -- an instruction is at each pc that is reached
-    pub none-at : insn_at (drop before.pc code) ≡ None → ⊥
-    none-at none =
-        not_none ready.image (limits_of ready ticks) g.state before g.is g.good checked built (sym (ap insn_at bytes_are) ∙ none)
+    pub there-at : IsSome (insn_at (drop before.pc code))
+    there-at =
+        not_none (insn_at (drop before.pc code)) (λ none. is_there ready.image (limits_of ready ticks) g.state before g.is g.good checked built (sym (ap insn_at bytes_are) ∙ none))
 
     pub shows-at : (new : C) (after : Place) (cells : List ℕ) (insn : MInsn) (size capacity : ℕ) (turn : Turn) (result : Result (Unit {0}) Ending)
         → insn_at (drop before.pc code) ≡ Some (insn, size) → method.body ≤ capacity
@@ -242,6 +249,7 @@ module _ {C : Type 0} (left shown noted : C → Option (List ℕ)) (faults : C �
           talked = Talked-then shown noted faults room old now new g.said items g.talked went.talked;
           come = λ start told. come-on start g.said items g.state next (g.come start told) e;
           tells = tells-then (left old) (left now) (left new) g.state.input next.input g.tells went.tells;
+          rest = without_gets g.said items (left old) (left now) (left new) g.rest went.rest;
         };
         nearer =
             let before_is = left_is ready.image (limits_of ready ticks) g.state before g.is g.good in
@@ -275,6 +283,7 @@ module _ {C : Type 0} (left shown noted : C → Option (List ℕ)) (faults : C �
         same = refl;
         talked = g.talked;
         same_left = if_told (left old) _ (λ input told. g.tells ∙ ap (option_map (λ _. g.state.input)) told);
+        rest = g.rest;
       }
 
   -- the endings of a step are told in one way
@@ -292,7 +301,7 @@ module _ {C : Type 0} (left shown noted : C → Option (List ℕ)) (faults : C �
   known-so_far _ known = absurd known
 
   failed : (now new : C) (place : Place) (g : GoingTo now place) (items : List Item) (next : State) → step_frames ready.image (limits_of ready ticks) g.state g.state.frames ≡ Goes items next
-      → (good : IsGood ready.image next) → next.ticks ≤ ticks → BrokeOff shown noted faults room now new items
+      → (good : IsGood ready.image next) → next.ticks ≤ ticks → BrokeOff left shown noted faults room now new items
       → Failed left shown noted faults room ready ticks old new
   failed now new place g items next e good less broke =
       let rest = ends_from ready.image is_image checked built (limits_of ready ticks) next good less (g.said ++ items) in
@@ -308,8 +317,8 @@ module _ {C : Type 0} (left shown noted : C → Option (List ℕ)) (faults : C �
               over = run_from-more whole (start_of ready.image (limits_of ready ticks) input) come.steps rest.0 ∙ ap (λ from. run_from whole from rest.0) come.running ∙ rest.4;
               left = refl;
             });
-        broke = BrokeOff-prefix shown noted faults room old new (g.said ++ items) rest.1
-            (BrokeOff-then shown noted faults room old now new g.said items g.talked broke);
+        broke = BrokeOff-prefix left shown noted faults room old new (g.said ++ items) rest.1
+            (BrokeOff-then left shown noted faults room old now new g.said items g.rest g.talked broke);
       }
 
   end-by : (now new : C) (before after : Place) (g : GoingTo now before) (ending : Ending) (step : Step State Ending) → step_frames ready.image (limits_of ready ticks) g.state g.state.frames ≡ step
@@ -414,6 +423,7 @@ module _ {C : Type 0} (left shown noted : C → Option (List ℕ)) (faults : C �
               running = start-fits start method is_main fits ∙ ap (λ (x : List ℕ). Running [] (start_with ready.image (first_frame ready.image.main method ∷ []) x)) (sym (told_is (left old) start told));
             };
         tells = told_tells (left old);
+        rest = without_first-none (left old);
       }
 
   -- main's frame does not fit the stack
@@ -432,4 +442,5 @@ module _ {C : Type 0} (left shown noted : C → Option (List ℕ)) (faults : C �
         same = refl;
         talked = Talked-nothing shown noted faults room old;
         same_left = if_told (left old) _ (λ input told. told ∙ ap (λ (x : List ℕ). Some x) (sym (told_is (left old) input told)));
+        rest = without_first-none (left old);
       }

@@ -5,9 +5,10 @@ use Rattle.std.proofs.lemmas.Bool.{false≢true}
 use Rattle.std.proofs.lemmas.List.{take_more, map_push, map-append, append-nil}
 use Rattle.std.proofs.Math.Seq.{drop-cons}
 use Rattle.dialogue.specs.Dialogue.{Get, Put, putting}
+use Rattle.dialogue.specs.Natives.{after_byte}
 use Rattle.host_face.specs.Faults.{Rose}
 use Rattle.host_face.specs.Console.{Takes}
-use Rattle.host_face.specs.Talk.{Talked, BrokeOff}
+use Rattle.host_face.specs.Talk.{Talked, BrokeOff, without_first}
 use Rattle.host_face.proofs.TalkLemmas.{with_bytes-nil, Talked-nothing}
 use Rattle.mote_core.specs.Acts.{IsRead}
 
@@ -22,6 +23,13 @@ putting-parts bytes i lt =
     let parts : bytes ≡ take i bytes ++ (get_or bytes i 0 ∷ drop (i + 1) bytes) = sym (take-append-drop i bytes) ∙ ap (λ (rest : List ℕ). take i bytes ++ rest) (rw add-one (drop-cons bytes i 0 (omega arith))) in
     ap putting parts ∙ map-append Put (take i bytes) (get_or bytes i 0 ∷ drop (i + 1) bytes)
 
+same_some : {A : Type 0} {x y : A} → Some x ≡ Some y → x ≡ y
+same_some e = cc
+
+after_one : (bytes : List ℕ) → after_byte bytes ≡ drop 1 bytes
+after_one [] = refl
+after_one (byte ∷ bytes) = refl
+
 -- a byte that a console gave
 pub read-byte : (before after : Option (List ℕ)) (byte : ℕ) → byte < 256 → Takes (Some byte) before after → IsRead before after (pos byte)
 read-byte before None byte fits takes =
@@ -33,6 +41,12 @@ pub read-end : (before after : Option (List ℕ)) → Takes None before after �
 read-end before after takes =
     record { input = []; tells = takes.0; value = refl; now = takes.1 ∙ takes.0 }
 
+-- a byte was asked for: the input is without it
+pub read-left : (before after : Option (List ℕ)) (number : ℤ) → IsRead before after number → after ≡ without_first 1 before
+read-left None after number read = read.now
+read-left (Some bytes) after number read =
+    read.now ∙ ap (λ (xs : List ℕ). Some (after_byte xs)) (sym (same_some read.tells)) ∙ ap (λ (xs : List ℕ). Some xs) (after_one bytes)
+
 pub untold-fails : (room : Option ℕ) → (IsSome room → false ≡ true) → IsNone room
 untold-fails None fails = refl
 untold-fails (Some room) fails = absurd (false≢true (fails refl))
@@ -43,8 +57,9 @@ module _ {C : Type 0} (shown noted : C → Option (List ℕ)) (faults : C → �
   Talked-get old new put note counted same_room =
       record { put = put ∙ sym (with_bytes-nil (shown old)); note = note ∙ sym (with_bytes-nil (noted old)); counted = counted; same_room = same_room }
 
+module _ {C : Type 0} (left shown noted : C → Option (List ℕ)) (faults : C → ℕ) (room : C → Option ℕ) where
   -- it failed, which a console that tells its room does not do
-  pub BrokeOff-get : (old new : C) → shown new ≡ shown old → noted new ≡ noted old → faults old ≤ faults new → room new ≡ room old → Rose (faults old) (faults new) → IsNone (room old) → BrokeOff shown noted faults room old new (Get ∷ [])
+  pub BrokeOff-get : (old new : C) → shown new ≡ shown old → noted new ≡ noted old → faults old ≤ faults new → room new ≡ room old → Rose (faults old) (faults new) → IsNone (room old) → BrokeOff left shown noted faults room old new (Get ∷ [])
   BrokeOff-get old new put note counted same_room rose none =
       record {
         said = [];
@@ -54,4 +69,5 @@ module _ {C : Type 0} (shown noted : C → Option (List ℕ)) (faults : C → �
         talked = record { put = put ∙ sym (with_bytes-nil (shown old)); note = note ∙ sym (with_bytes-nil (noted old)); counted = counted; same_room = same_room };
         rose = rose;
         full = none;
+        rest = tt;
       }

@@ -1,10 +1,10 @@
 -- What a turn does: the rest of the step, over a console.
 use Rattle.std.specs.Prelude.{◌≡◌, ℕ, ℤ, ◌+◌, ◌<◌, ◌≤◌, ◌⊎◌, Bool, true, false, List, [], ◌∷◌, Option, option_map, Result, Ok, Err}
-use Rattle.dialogue.specs.Dialogue.{Item}
+use Rattle.dialogue.specs.Dialogue.{Item, gets}
 use Rattle.dialogue.specs.Limits.{Limits}
 use Rattle.dialogue.specs.Natives.{next_byte, after_byte}
 use Rattle.dialogue.specs.Run.{Step, Goes, Ends, Stuck}
-use Rattle.host_face.specs.Talk.{Talked, BrokeOff}
+use Rattle.host_face.specs.Talk.{Talked, BrokeOff, without_first}
 use Rattle.mote_model.specs.declared.ending.Ending.{Ending}
 use Rattle.mote_model.specs.declared.ending.Ending.TheVariants.{Spent, ConsoleFault}
 use Rattle.mote_model.specs.State.{Frame, State}
@@ -65,6 +65,7 @@ module _ {C : Type 0} (left shown noted : C → Option (List ℕ)) (faults : C �
     pub talked : Talked shown noted faults room old new items
     pub is : IsPlaceOf limits place next
     pub tells : TellsNow (left old) (left new) next.input
+    pub rest : left new ≡ without_first (gets items) (left old)
 
   -- the run ends, and nothing was said
   pub record Stopped (old new : C) (ending result : Ending) : Type 0 where
@@ -75,7 +76,7 @@ module _ {C : Type 0} (left shown noted : C → Option (List ℕ)) (faults : C �
   -- the step was done: it goes on, or the run ends, or the console failed
   abbrev pub Shows : Limits → (old new : C) → Place → Step State Ending → Result (Unit {0}) Ending → Type 0
   Shows limits old new place (Goes items next) (Ok _) = Went limits old new place items next
-  Shows limits old new place (Goes items next) (Err ending) = (ending ≡ ConsoleFault) × BrokeOff shown noted faults room old new items
+  Shows limits old new place (Goes items next) (Err ending) = (ending ≡ ConsoleFault) × BrokeOff left shown noted faults room old new items
   Shows limits old new place (Ends ending) (Ok _) = ⊥
   Shows limits old new place (Ends ending) (Err result) = Stopped old new ending result
   Shows limits old new place Stuck result = ⊥

@@ -2,7 +2,8 @@
 -- before and after.
 use Rattle.std.specs.Prelude.{◌≡◌, ℕ, List, Option, Some, IfSome}
 use Rattle.dialogue.specs.Outcome.{Outcome}
-use Rattle.host_face.specs.Talk.{Talked, BrokeOff}
+use Rattle.dialogue.specs.Dialogue.{gets}
+use Rattle.host_face.specs.Talk.{Talked, BrokeOff, without_first}
 use Rattle.mote_model.specs.declared.ending.Ending.{Ending}
 use Rattle.mote_model.specs.declared.ending.Ending.TheVariants.{Done, Uncaught, Spent, HeapWanted, StackWanted, ConsoleFault, Misfit}
 use Rattle.mote_model.specs.Machine.{LimitedSo}
@@ -23,20 +24,23 @@ IsEndingSoFar (StackWanted need used) = Unit {0}
 IsEndingSoFar ConsoleFault = Unit {0}
 IsEndingSoFar (Misfit class place) = ⊥
 
--- the run ended so: all of its dialogue was said, and the input left is its own
+-- the run ended so: all of its dialogue was said, and the input left is its own, which is the old input
+-- without as many bytes as were asked for
 pub record Ended {C : Type 0} (left shown noted : C → Option (List ℕ)) (faults : C → ℕ) (room : C → Option ℕ) (ready : Ready) (ticks : ℕ) (old new : C) (ending : Ending) : Type 0 where
   pub outcome : Outcome Ending
   pub may : MayEnd ready ticks (left old) outcome
   pub same : ending ≡ outcome.ending
   pub talked : Talked shown noted faults room old new outcome.dialogue
   pub same_left : IfSome (left old) (λ _. left new ≡ Some outcome.left)
+  pub rest : left new ≡ without_first (gets outcome.dialogue) (left old)
 
--- the console failed: a proper prefix of the dialogue of the run was said
+-- the console failed: a proper prefix of the dialogue of the run was said, and unless the next item asks
+-- for a byte, the input left is the old one without as many bytes as the prefix asks for
 pub record Failed {C : Type 0} (left shown noted : C → Option (List ℕ)) (faults : C → ℕ) (room : C → Option ℕ) (ready : Ready) (ticks : ℕ) (old new : C) : Type 0 where
   pub outcome : Outcome Ending
   pub may : MayEnd ready ticks (left old) outcome
   pub known : IsStepEnding outcome.ending
-  pub broke : BrokeOff shown noted faults room old new outcome.dialogue
+  pub broke : BrokeOff left shown noted faults room old new outcome.dialogue
 
 -- the run answered this ending
 abbrev pub Ran : {C : Type 0} (left shown noted : C → Option (List ℕ)) (faults : C → ℕ) (room : C → Option ℕ) → Ready → ℕ → (old new : C) → Ending → Type 0

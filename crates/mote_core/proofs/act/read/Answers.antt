@@ -13,7 +13,7 @@ returns-in_err-byte-clause-said g c =
     let C = g.C.Console in
     let said = c.in_err-byte.ensures in
     let p = err_from_is_err_and c.from_residual.result c.from_residual.ensures.1 in
-    rw p.1 (BrokeOff-get C.shown C.noted C.faults C.room c.args.console.now c.get.new.self said.shown said.noted said.faults said.room said.failed (untold-fails (C.room c.args.console.now) said.succeeds))
+    rw p.1 (BrokeOff-get C.left C.shown C.noted C.faults C.room c.args.console.now c.get.new.self said.shown said.noted said.faults said.room said.failed (untold-fails (C.room c.args.console.now) said.succeeds))
 
 pub returns-in-Some-clause-number : goal.returns-in-Some-clause-number
 returns-in-Some-clause-number g c =

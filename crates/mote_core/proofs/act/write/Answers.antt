@@ -28,6 +28,6 @@ returns-in-Err-clause-acts g c =
     let C = g.C.Console in
     let fits : SFits w32 c.args.number = search rules in
     let byte = c.low_byte.ensures ∙ ap low_byte (to_z-of_z w32 c.args.number fits) in
-    let broke = subst (λ items. BrokeOff C.shown C.noted C.faults C.room c.args.console.now c.show.new.console items) (ap (λ b. putting (b ∷ [])) byte) c.in-Err.ensures.said in
+    let broke = subst (λ items. BrokeOff C.left C.shown C.noted C.faults C.room c.args.console.now c.show.new.console items) (ap (λ b. putting (b ∷ [])) byte) c.in-Err.ensures.said in
     acts-show-broke C.left C.shown C.noted C.faults C.room (Write c.args.number) (low_byte c.args.number ∷ []) c.args.next (λ limits state frame locals operands. refl) _ _ c.args.console.now c.show.new.console
     c.if-not-tick.ensures.tick broke

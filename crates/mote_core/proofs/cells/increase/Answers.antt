@@ -9,7 +9,7 @@ use Rattle.mote_core.proofs.cells.increase.Goals as goal
 
 pub returns-clause-items : goal.returns-clause-items
 returns-clause-items c =
-    let pair = ap (λ t. local_cells t c.args.local) (sym c.as_slice.ensures.value) ∙ c.local_pair-low.ensures in
+    let pair = ap (λ t. local_cells t c.args.local) (sym c.items.ensures) ∙ c.local_pair-low.ensures in
     let fits : SFits w16 c.args.amount = search rules in
     let amount_fits : SFits w32 c.from.result = search rules in
     let number_fits : SFits w32 c.join.result = search rules in
