@@ -2,3 +2,13 @@ pub mod CodeBody
 pub mod Reading
 pub mod NumberSteps
 pub mod NumberRuns
+pub mod Decisions
+pub mod ReachedSets
+pub mod FormDecided
+pub mod FirstOutside
+pub mod LinkedSets
+pub mod PhaseLists
+pub mod VerdictLaws
+pub mod SetRuns
+pub mod EarlyPhases
+pub mod NumberSets

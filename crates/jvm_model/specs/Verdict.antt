@@ -1,11 +1,16 @@
 -- The verdict on a set of class files, each a list of bytes: it is accepted, or refused in one way. It is the
 -- first refusal in a list of phases.
-use Rattle.std.specs.Prelude.{◌≡◌, ◌⊎◌, ℕ, List, [], ◌∷◌, Option, Some, None}
+use Rattle.std.specs.Prelude.{◌≡◌, ◌⊎◌, ℕ, ◌<◌, List, [], ◌∷◌, Option, Some, None}
+use Rattle.std.specs.List.{AllByRecursion}
 use Rattle.jvm_model.specs.declared.refusal.Refusal.{Refusal}
 use Rattle.jvm_model.specs.Phases.{SetSize, Reading, MethodCode}
 use Rattle.jvm_model.specs.BuiltForm.{BuiltForm}
 use Rattle.jvm_model.specs.FrameSize.{FrameSize}
 use Rattle.jvm_model.specs.CodeLength.{CodeLength}
+
+-- the files are lists of bytes
+abbrev pub AreBytes : List (List ℕ) → Type 0
+AreBytes files = AllByRecursion (λ bytes. AllByRecursion (λ byte. byte < 256) bytes) files
 
 -- what a phase answers for a set: a refusal, or none
 abbrev pub Phase : Type 1

@@ -1,4 +1,4 @@
-ghost use Rattle.std.specs.Prelude.{◌≡◌, ℕ, true, false, List, Option};
+ghost use Rattle.std.specs.Prelude.{◌≡◌, ℕ, false, List, Option};
 ghost use Rattle.dialogue.specs.Limits.{Limits};
 ghost use Rattle.dialogue.specs.Outcome.{Outcome};
 ghost use Rattle.image_form.specs.declared.record.Image.{Image};
@@ -6,13 +6,13 @@ ghost use Rattle.jvm_model.specs.declared.refusal.Refusal.{Refusal};
 ghost use Rattle.jvm_model.specs.Program.{Program};
 ghost use Rattle.jvm_model.specs.Machine.{Ending, EndsSo, LimitedSo};
 ghost use Rattle.jvm_model.specs.Linked.{Linked};
-ghost use Rattle.jvm_model.specs.Verdict.{Verdict, Accepted};
+ghost use Rattle.jvm_model.specs.Verdict.{Verdict, Accepted, AreBytes};
 ghost use Rattle.jvm_model.specs.SetRun.{Run, LimitedRun, is_want, IsPrefix};
 ghost use Rattle.jvm_model.specs.SetImage.{IsImageOf};
 
-/// Each set has one verdict.
+/// Each set of files of bytes has a verdict, and no set has two.
 pub fn one_verdict()
-    ensures total { (files : List (List ℕ)) → (found : Option Refusal) × Verdict files found }
+    ensures total { (files : List (List ℕ)) → AreBytes files → (found : Option Refusal) × Verdict files found }
     ensures unique { (files : List (List ℕ)) (first second : Option Refusal) → Verdict files first → Verdict files second → first ≡ second }
 {}
 
@@ -40,11 +40,11 @@ pub fn one_ending()
     ensures limited_run { (program : Program) (cells : ℕ) (limits : Limits) (input : List ℕ) (first second : Outcome Ending) → LimitedSo program cells limits input first → LimitedSo program cells limits input second → first ≡ second }
 {}
 
-/// Limits do nothing but end a run early: where the limited run ends with a want of heap or of stack, what
-/// it said is a prefix of what the unlimited run of as many ticks says; else the unlimited run ends the same.
+/// Limits do nothing but end a run early: what the limited run says is a prefix of what the unlimited run of
+/// as many ticks says, and unless it ends with a want of heap or of stack, the unlimited run ends the same.
 pub fn limits_cut()
-    ensures program_wants { (program : Program) (cells : ℕ) (limits : Limits) (input : List ℕ) (outcome unlimited : Outcome Ending) → LimitedSo program cells limits input outcome → is_want outcome.ending ≡ true → EndsSo program limits.ticks input unlimited → IsPrefix outcome.dialogue unlimited.dialogue }
+    ensures program_said { (program : Program) (cells : ℕ) (limits : Limits) (input : List ℕ) (outcome unlimited : Outcome Ending) → LimitedSo program cells limits input outcome → EndsSo program limits.ticks input unlimited → IsPrefix outcome.dialogue unlimited.dialogue }
     ensures program_ends { (program : Program) (cells : ℕ) (limits : Limits) (input : List ℕ) (outcome : Outcome Ending) → LimitedSo program cells limits input outcome → is_want outcome.ending ≡ false → EndsSo program limits.ticks input outcome }
-    ensures set_wants { (files : List (List ℕ)) (limits : Limits) (input : List ℕ) (outcome unlimited : Outcome Ending) → LimitedRun files limits input outcome → is_want outcome.ending ≡ true → Run files limits.ticks input unlimited → IsPrefix outcome.dialogue unlimited.dialogue }
+    ensures set_said { (files : List (List ℕ)) (limits : Limits) (input : List ℕ) (outcome unlimited : Outcome Ending) → LimitedRun files limits input outcome → Run files limits.ticks input unlimited → IsPrefix outcome.dialogue unlimited.dialogue }
     ensures set_ends { (files : List (List ℕ)) (limits : Limits) (input : List ℕ) (outcome : Outcome Ending) → LimitedRun files limits input outcome → is_want outcome.ending ≡ false → Run files limits.ticks input outcome }
 {}
