@@ -1,19 +1,18 @@
 -- Each phase has one answer for each set, and so the verdict is one.
-use Rattle.std.proofs.Common.{◌≡◌, inl, inr, ℕ, ◌<◌, ◌≤◌, List, [], ◌∷◌, length, Option, Some, None, refl, sym, ap, ◌∙◌, arith}
+use Rattle.std.proofs.Common.{◌≡◌, inl, inr, ℕ, ◌<◌, ◌≤◌, List, length, Option, Some, None, refl, sym, ap, ◌∙◌, arith}
 use Rattle.std.proofs.lemmas.Bool.{cases_lt}
 use Rattle.class_file.specs.declared.record.CodeAttr.{CodeAttr}
-use Rattle.jvm_model.specs.declared.refusal.Cause.{Cause}
 use Rattle.jvm_model.specs.declared.refusal.Cause.TheVariants.{FrameTooLarge, CodeTooLong}
 use Rattle.jvm_model.specs.declared.refusal.Refusal.{Refusal}
 use Rattle.jvm_model.specs.Body.{Body}
 use Rattle.jvm_model.specs.FrameCells.{frame_cells}
 use Rattle.jvm_model.specs.ImageOf.{code_for}
-use Rattle.jvm_model.specs.Phases.{SetSize, Reading, MethodCode, size_refusal, first_refusal, reading_refusal, code_refusal}
+use Rattle.jvm_model.specs.Phases.{size_refusal, first_refusal, reading_refusal, code_refusal}
 use Rattle.jvm_model.specs.Linked.{Linked, refusal_of_main}
 use Rattle.jvm_model.specs.BuiltForm.{BuiltForm, OutsideFile}
 use Rattle.jvm_model.specs.FrameSize.{FrameSize, most_frame_cells, cells_of}
 use Rattle.jvm_model.specs.CodeLength.{CodeLength, most_code_bytes, bytes_of}
-use Rattle.jvm_model.specs.Verdict.{Phase, phases, Verdict, Accepted, AreBytes}
+use Rattle.jvm_model.specs.Verdict.{phases, Verdict, Accepted, AreBytes}
 use Rattle.jvm_model.proofs.Decisions.{Decided}
 use Rattle.jvm_model.proofs.FirstOutside.{one_named, outside_file_one, some_named}
 use Rattle.jvm_model.proofs.LinkedSets.{one_linked, decide_linked}
