@@ -12,11 +12,11 @@ use Rattle.jvm_model.specs.Linked.{Linked, refusal_of_main}
 use Rattle.jvm_model.specs.BuiltForm.{BuiltForm, OutsideFile}
 use Rattle.jvm_model.specs.FrameSize.{FrameSize, most_frame_cells, cells_of}
 use Rattle.jvm_model.specs.CodeLength.{CodeLength, most_code_bytes, bytes_of}
-use Rattle.jvm_model.specs.Verdict.{phases, Verdict, Accepted, AreBytes}
+use Rattle.jvm_model.specs.Verdict.{phases, Verdict, Accepted, AreBytes, IsFunction, AreFunctions}
 use Rattle.jvm_model.proofs.Decisions.{Decided}
 use Rattle.jvm_model.proofs.FirstOutside.{one_named, outside_file_one, some_named}
 use Rattle.jvm_model.proofs.LinkedSets.{one_linked, decide_linked}
-use Rattle.jvm_model.proofs.PhaseLists.{IsFunction, AreFunctions, first_total, first_unique}
+use Rattle.jvm_model.proofs.PhaseLists.{first_total, first_unique}
 
 -- ---- the phases that are functions of the files
 
