@@ -1,12 +1,9 @@
 pub mod Answering
-pub mod Causes
-pub mod Choices
-pub mod Clauses
 pub mod Commands
+pub mod Laws
 pub mod Notes
 pub mod Positions
 pub mod RunAnswers
-pub mod Runs
-pub mod Stores
+pub mod Sets
 pub mod WordFaults
 pub mod WordTests

@@ -11,9 +11,9 @@ pub returns-in_err-note_named-clause-said : goal.returns-in_err-note_named-claus
 returns-in_err-note_named-clause-said g c =
     let C = g.C.Console in
     let p = err_from_is_err_and c.from_residual.result c.from_residual.ensures.1 in
-    rw p.1 (Noting-prefix C.shown C.noted C.faults C.room c.args.console.now c.note_named.new.console (c.args.first.now ++ blank_number c.args.need) ((c.args.second.now ++ blank_number c.args.used) ++ line (codes " size") (c.args.size ∷ [])) c.in_err-note_named.ensures.said)
+    rw p.1 (Noting-prefix C.left C.shown C.noted C.faults C.room c.args.console.now c.note_named.new.console (c.args.first.now ++ blank_number c.args.need) ((c.args.second.now ++ blank_number c.args.used) ++ line (codes " size") (c.args.size ∷ [])) c.in_err-note_named.ensures.said)
 
 pub returns-clause-said : goal.returns-clause-said
 returns-clause-said g c =
     let C = g.C.Console in
-    Noting-last C.shown C.noted C.faults C.room c.args.console.now c.note_named.new.console c.note_use.new.console (c.args.first.now ++ blank_number c.args.need) ((c.args.second.now ++ blank_number c.args.used) ++ line (codes " size") (c.args.size ∷ [])) c.note_use.result c.in_ok-note_named.ensures.said c.note_use.ensures.said
+    Noting-last C.left C.shown C.noted C.faults C.room c.args.console.now c.note_named.new.console c.note_use.new.console (c.args.first.now ++ blank_number c.args.need) ((c.args.second.now ++ blank_number c.args.used) ++ line (codes " size") (c.args.size ∷ [])) c.note_use.result c.in_ok-note_named.ensures.left c.in_ok-note_named.ensures.said c.note_use.ensures.said
