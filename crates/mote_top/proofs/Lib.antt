@@ -1,9 +1,13 @@
 pub mod Answering
+pub mod Causes
+pub mod Choices
 pub mod Commands
+pub mod Keeping
 pub mod Laws
 pub mod Notes
 pub mod Positions
 pub mod RunAnswers
 pub mod Sets
+pub mod Stores
 pub mod WordFaults
 pub mod WordTests

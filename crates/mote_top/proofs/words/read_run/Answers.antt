@@ -46,7 +46,7 @@ returns-then-is_empty c =
     let number : string_bytes c.in-Some-split_first-2.number.now ≡ decimal c.in-Some-ticks_in.ticks = sym c.as_str-3.ensures.value ∙ c.in-Some-ticks_in.ensures.some in
     let none = is_nil c.in-Some-split_first-2.rest.now c.is_empty.result c.is_empty.ensures c.if-is_empty.true in
     rw (c.in-Some.ensures.cases.0, c.in-Some-split_first.ensures.cases.0, option, c.in-Some-split_first-2.ensures.cases.0, number, none)
-    (record { name = string_bytes c.in-Some.name.now; option = Some c.in-Some-ticks_in.ticks; words_are = refl; is_name = is_name; fits = omega arith; name_is = refl; opts_are = ? })
+    (record { name = string_bytes c.in-Some.name.now; option = Some c.in-Some-ticks_in.ticks; words_are = refl; is_name = is_name; fits = omega arith; name_is = refl; opts_are = c.with_ticks.ensures })
 
 pub returns-else-is_empty : goal.returns-else-is_empty
 returns-else-is_empty c =

@@ -1,0 +1,9 @@
+use Rattle.std.proofs.Common.{◌≡◌, ◌∷◌, [], sym, ap, ◌∙◌}
+use Rattle.mote_top.proofs.Sets.{refused_status}
+use Rattle.mote_top.proofs.top.infusion_of.Goals as goal
+
+pub returns-in-Ok-write_image-clause-ok : goal.returns-in-Ok-write_image-clause-ok
+returns-in-Ok-write_image-clause-ok c = record { image = c.in-Ok.image; is_image = c.in-Ok.ensures.found; is_encoding = c.in-Ok-write_image.ensures }
+
+pub returns-in-Err-clause-err : goal.returns-in-Err-clause-err
+returns-in-Err-clause-err c = refused_status (c.args.bytes.items ∷ []) c.in-Err.refusal c.refused.result c.refused.ensures.memory c.refused.ensures.other c.in-Err.ensures.refused
