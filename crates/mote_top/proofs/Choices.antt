@@ -15,7 +15,7 @@ use Rattle.mote_top.specs.Reply.{Reply, quiet, HasAt, SetReplies, InfusionReplie
 use Rattle.mote_top.specs.Answer.{IsQuiet}
 use Rattle.mote_top.specs.Headline.{ChangesOwn}
 use Rattle.mote_top.specs.Storing.{IsRefusedStatus, IsStored}
-use Rattle.mote_top.proofs.Laws.{image_accepted}
+use Rattle.mote_top.proofs.SetLaws.{image_accepted}
 use Rattle.mote_top.proofs.Stores.{stored_changes}
 
 limits_are : (option : Option ℕ) (opts : Opts) → opts ≡ opts_of option → limits_in opts ≡ limits_in (opts_of option)

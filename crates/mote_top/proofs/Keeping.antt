@@ -26,7 +26,7 @@ use Rattle.mote_top.specs.Headline.{GoesOn, RunsOn, RunsInfusionOf, InfusesTo, R
 use Rattle.mote_top.specs.Promises.{Promises}
 use Rattle.mote_top.proofs.Answering.{whole_of}
 use Rattle.mote_top.proofs.Causes.{status_is, may_words, fault_reply, may_shelf, go_on, run_on, infuse_on}
-use Rattle.mote_top.proofs.Laws.{accepted_sets_run, accepted_or_refused, one_refusal, one_run, run_accepted, image_accepted}
+use Rattle.mote_top.proofs.SetLaws.{accepted_sets_run, accepted_or_refused, one_refusal, one_run, run_accepted, image_accepted}
 use Rattle.mote_top.proofs.Sets.{image_ends, infusion_is_one}
 
 same_refusal : (a b : Refusal) → Refused a ≡ Refused b → a ≡ b

@@ -3,7 +3,8 @@ pub mod Causes
 pub mod Choices
 pub mod Commands
 pub mod Keeping
-pub mod Laws
+pub mod Lasting
+pub mod SetLaws
 pub mod Notes
 pub mod Positions
 pub mod RunAnswers

@@ -36,7 +36,7 @@ use Rattle.mote_top.specs.Call.{Spoken}
 use Rattle.mote_top.specs.Reply.{Reply, quiet, RefusesSet, EndsAs, RunsSet, SetReplies, IsNoInfusion, IsInfusion, RefusesInfusion, ImageEndsAs, RunsImage, RunsInfusion, InfusionReplies}
 use Rattle.mote_top.specs.Answer.{IsQuiet}
 use Rattle.mote_top.specs.Storing.{IsRefusedStatus}
-use Rattle.mote_top.proofs.Laws.{RunsAlike, accepted_sets_run, image_accepted}
+use Rattle.mote_top.proofs.SetLaws.{RunsAlike, accepted_sets_run, image_accepted}
 
 -- ---- runs
 

@@ -32,3 +32,9 @@ stored_changes out bytes kept now before after Done stored = subst (ChangesOnly 
 stored_changes out bytes kept now before after (ShelfFault word) stored = stored.1
 stored_changes out bytes kept now before after Memory stored = stored
 stored_changes out bytes kept now before after _ stored = absurd stored
+
+-- the name itself has the bytes
+pub kept_there : (files : Files) (out bytes : List ℕ) → get (insert files out bytes) out ≡ Some bytes
+kept_there files out bytes =
+    get-insert nat_list_cmp_total files out bytes out
+    ∙ ap (λ (same : Bool). cond same (Some bytes) (get files out)) (is_eq-slice_cmp out out ∙ (bytes_eq-Decides out out).1 refl)

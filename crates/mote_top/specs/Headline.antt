@@ -177,3 +177,9 @@ pub record Stays (call : Call) (after : After) : Type 0 where
   pub shelf : KeepsShelf call.words call.shelf after.shelf
   pub faults : call.console.faults ≤ after.console.faults
   pub room : after.console.room ≡ call.console.room
+
+-- no count of faults rose in the call
+pub record NoneRose (call : Call) (after : After) : Type 0 where
+  pub loads : (name : List ℕ) → Rose (call.shelf.load_faults name) (after.shelf.load_faults name) → ⊥
+  pub stores : (name : List ℕ) → Rose (call.shelf.store_faults name) (after.shelf.store_faults name) → ⊥
+  pub console : Rose call.console.faults after.console.faults → ⊥
