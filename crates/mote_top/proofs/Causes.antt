@@ -59,7 +59,7 @@ same_bytes : (a b : List ℕ) → Some a ≡ Some b → a ≡ b
 same_bytes a b e = cc
 
 -- what was found at a name is what is kept there
-at_name : (kept : Option Files) (files : Files) (name found bytes : List ℕ) → kept ≡ Some files → get files name ≡ Some bytes → HasAt kept name found → found ≡ bytes
+pub at_name : (kept : Option Files) (files : Files) (name found bytes : List ℕ) → kept ≡ Some files → get files name ≡ Some bytes → HasAt kept name found → found ≡ bytes
 at_name kept files name found bytes tells there has =
     let here : HasAt (Some files) name found = subst (λ (k : Option Files). HasAt k name found) tells has in
     same_bytes found bytes (sym here ∙ there)

@@ -8,14 +8,14 @@ use Rattle.host_face.proofs.TalkLemmas.{Rose-then}
 use Rattle.mote_top.specs.declared.status.Status.{Status}
 use Rattle.mote_top.specs.declared.status.Status.TheVariants.{Done, Words, Refused, ShelfFault, Memory}
 use Rattle.mote_top.specs.declared.words.Opts.{Opts}
-use Rattle.mote_top.specs.Stub.{Accepted, IsImageOf}
+use Rattle.jvm_model.specs.SetImage.{IsImageOf}
+use Rattle.jvm_model.specs.Verdict.{Accepted}
 use Rattle.mote_top.specs.Words.{IsName, infuse_of, run_of, go_of, class_place, opts_of, limits_in, FitsOption, FaultsAt}
 use Rattle.mote_top.specs.Call.{Shelved, Spoken, call}
 use Rattle.mote_top.specs.Reply.{Reply, quiet, HasAt, SetReplies, InfusionReplies, IsInfusionOf, MayReply, NoCommand, Go, Run, Infuse, NoLoad, NoStore}
 use Rattle.mote_top.specs.Answer.{IsQuiet}
 use Rattle.mote_top.specs.Headline.{ChangesOwn}
 use Rattle.mote_top.specs.Storing.{IsRefusedStatus, IsStored}
-use Rattle.mote_top.proofs.SetLaws.{image_accepted}
 use Rattle.mote_top.proofs.Stores.{stored_changes}
 
 limits_are : (option : Option ℕ) (opts : Opts) → opts ≡ opts_of option → limits_in opts ≡ limits_in (opts_of option)
@@ -98,7 +98,7 @@ infuse_stored_may out class bytes infusion limits is_out is_class infused before
       is_class = is_class;
       bytes = bytes;
       found = found;
-      accepted = image_accepted (bytes ∷ []) infused.image infused.is_image;
+      accepted = infused.is_image.accepted;
       rose = Rose-then (before.store_faults out) (faults out) (after.store_faults out) (counts out) stored.2;
       others = stored.1;
       is = ap (λ (w : ℕ). quiet (ShelfFault w) console.left) stored.0;
@@ -115,6 +115,6 @@ infuse_changes out class bytes infusion infused kept now before after found stat
       command = refl;
       bytes = bytes;
       found = found;
-      accepted = image_accepted (bytes ∷ []) infused.image infused.is_image;
+      accepted = infused.is_image.accepted;
       others = stored_changes out infusion kept now before after status stored;
     })

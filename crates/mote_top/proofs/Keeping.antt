@@ -13,9 +13,13 @@ use Rattle.image_form.specs.Format.{encoding}
 use Rattle.image_form.proofs.Whole.{one_image}
 use Rattle.jvm_model.specs.declared.refusal.Refusal.{Refusal}
 use Rattle.jvm_model.specs.Machine as typed
+use Rattle.jvm_model.proofs.SetRuns.{limited_run_is_one}
+use Rattle.infuse_link.proofs.AcceptedSets.{set_image, set_checked, set_built}
 use Rattle.mote_top.specs.declared.status.Status.{Status}
 use Rattle.mote_top.specs.declared.status.Status.TheVariants.{Done, Uncaught, Words, Refused, Infusion, Spent, HeapWanted, StackWanted, ConsoleFault, ShelfFault, Misfit, Memory}
-use Rattle.mote_top.specs.Stub.{Accepted, IsRefused, LimitedRun, IsImageOf}
+use Rattle.jvm_model.specs.SetRun.{LimitedRun}
+use Rattle.jvm_model.specs.SetImage.{IsImageOf}
+use Rattle.jvm_model.specs.Verdict.{Accepted, IsRefused}
 use Rattle.mote_top.specs.Words.{FaultsAt}
 use Rattle.mote_top.specs.Status.{note_of}
 use Rattle.mote_top.specs.Endings.{typed_status, split_status}
@@ -26,7 +30,7 @@ use Rattle.mote_top.specs.Headline.{GoesOn, RunsOn, RunsInfusionOf, InfusesTo, R
 use Rattle.mote_top.specs.Promises.{Promises}
 use Rattle.mote_top.proofs.Answering.{whole_of}
 use Rattle.mote_top.proofs.Causes.{status_is, may_words, fault_reply, may_shelf, go_on, run_on, infuse_on}
-use Rattle.mote_top.proofs.SetLaws.{accepted_sets_run, accepted_or_refused, one_refusal, one_run, run_accepted, image_accepted}
+use Rattle.mote_top.proofs.SetLaws.{accepted_or_refused, one_refusal}
 use Rattle.mote_top.proofs.Sets.{image_ends, infusion_is_one}
 
 same_refusal : (a b : Refusal) → Refused a ≡ Refused b → a ≡ b
@@ -87,7 +91,7 @@ module _ (call : Call) (after : After) (limits : Limits) where
   -- the limited run that a reply tells is the one that is given
   ends_shown : (r : IsSaid after.status) (files : List (List ℕ)) (input : List ℕ) (outcome : Outcome typed.Ending) → LimitedRun files limits input outcome → EndsAs files limits input r.reply → Shows call after limits outcome.dialogue outcome.left (typed_status outcome.ending)
   ends_shown r files input outcome run ends =
-      let one : ends.outcome ≡ outcome = one_run files limits input ends.outcome outcome ends.ends run in
+      let one : ends.outcome ≡ outcome = limited_run_is_one files limits input ends.outcome outcome ends.ends run in
       let here = reply_shows r (typed_status ends.outcome.ending) ends.outcome.dialogue ends.outcome.left ends.is in
       subst (λ (o : Outcome typed.Ending). Shows call after limits o.dialogue o.left (typed_status o.ending)) one here
 
@@ -96,11 +100,11 @@ module _ (call : Call) (after : After) (limits : Limits) where
 
   set_shown : (r : IsSaid after.status) (files : List (List ℕ)) (input : List ℕ) (outcome : Outcome typed.Ending) → call.console.left ≡ Some input → LimitedRun files limits input outcome → SetReplies files limits call.console.left r.reply → Shows call after limits outcome.dialogue outcome.left (typed_status outcome.ending)
   set_shown r files input outcome tells run (inl runs) = ends_shown r files input outcome run (told_at call.console.left input (λ input. EndsAs files limits input r.reply) tells runs.told)
-  set_shown r files input outcome tells run (inr refuses) = absurd (accepted_or_refused files refuses.refusal (run_accepted files limits input outcome run) refuses.refused)
+  set_shown r files input outcome tells run (inr refuses) = absurd (accepted_or_refused files refuses.refusal run.accepted refuses.refused)
 
   -- the infusion of an accepted set is one
   own_infusion : (files : List (List ℕ)) (image : Image) → IsImageOf files image → IsInfusion (encoding image) image
-  own_infusion files image is = let known = accepted_sets_run files image is in record { encoded = (known.0, refl); checked = known.1; built = known.2 }
+  own_infusion files image is = record { encoded = (set_image files image is, refl); checked = set_checked files image is; built = set_built files image is }
 
   infusion_shown : (r : IsSaid after.status) (files : List (List ℕ)) (input : List ℕ) (outcome : Outcome typed.Ending) (image : Image) → IsImageOf files image → call.console.left ≡ Some input → LimitedRun files limits input outcome → InfusionReplies (encoding image) limits call.console.left r.reply
       → Shows call after limits outcome.dialogue outcome.left (typed_status outcome.ending)
@@ -131,13 +135,13 @@ module _ (call : Call) (after : After) (limits : Limits) where
   store_refused r files out refusal (inr nothing) = refused_as r files refusal nothing.refused
   store_refused r files out refusal (inl stores) = (
     λ is. absurd (done_is_refused refusal (sym (status_is stores.is) ∙ sym r.same ∙ is)),
-    λ refused. absurd (accepted_or_refused files refusal (image_accepted files stores.infusion.image stores.infusion.is_image) refused),
+    λ refused. absurd (accepted_or_refused files refusal stores.infusion.is_image.accepted refused),
   )
 
   stored_as : (r : IsSaid after.status) (files : List (List ℕ)) (out : List ℕ) → InfusesTo call files out → StoreReplies files out call.shelf.kept after.shelf.kept call.console.left r.reply → Accepted files ↔ StoresInfusion call after files out
   stored_as r files out given (inr nothing) = (
     λ accepted. absurd (accepted_or_refused files nothing.refused.refusal accepted nothing.refused.refused),
-    λ stored. image_accepted files stored.image stored.is_image,
+    λ stored. stored.is_image.accepted,
   )
   stored_as r files out given (inl stores) = (
     λ accepted.
@@ -149,7 +153,7 @@ module _ (call : Call) (after : After) (limits : Limits) where
           tells = given.tells;
           stored = stores.stored ∙ ap (option_map (λ kept. insert kept out stores.bytes)) given.tells ∙ ap (λ (b : List ℕ). Some (insert given.kept out b)) stores.infusion.is_encoding;
         },
-    λ stored. image_accepted files stored.image stored.is_image,
+    λ stored. stored.is_image.accepted,
   )
 
   -- ---- infusions

@@ -7,7 +7,7 @@ use Rattle.image_form.specs.Format.{encoding}
 use Rattle.jvm_model.specs.declared.refusal.Refusal.{Refusal}
 use Rattle.mote_top.specs.declared.status.Status.{Status}
 use Rattle.mote_top.specs.declared.status.Status.TheVariants.{ConsoleFault, ShelfFault, Memory}
-use Rattle.mote_top.specs.Stub.{IsRefused}
+use Rattle.jvm_model.specs.Verdict.{IsRefused}
 use Rattle.mote_top.specs.Words.{IsName, FitsOption, run_of, limits_of}
 use Rattle.mote_top.specs.Call.{Call, After}
 use Rattle.mote_top.specs.Reply.{HasAt}

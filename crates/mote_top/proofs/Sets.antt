@@ -26,17 +26,19 @@ use Rattle.jvm_model.specs.Machine as typed
 use Rattle.mote_model.specs.declared.ending.Ending.{Ending}
 use Rattle.mote_model.specs.declared.ending.Ending.TheVariants as split
 use Rattle.mote_model.specs.Machine.{machine, start_of}
-use Rattle.infuse_link.specs.RunsAlike.{SameEnding}
+use Rattle.infuse_link.specs.RunsAlike.{SameEnding, RunsAlike}
+use Rattle.infuse_link.proofs.AcceptedSets.{set_runs as runs_alike}
 use Rattle.mote_top.specs.declared.status.ImageRefusal.{ImageRefusal}
 use Rattle.mote_top.specs.declared.status.Status.{Status}
 use Rattle.mote_top.specs.declared.status.Status.TheVariants.{Done, Uncaught, Refused, Infusion, Spent, HeapWanted, StackWanted, Memory}
-use Rattle.mote_top.specs.Stub.{Accepted, IsRefused, LimitedRun, IsImageOf}
+use Rattle.jvm_model.specs.SetRun.{LimitedRun}
+use Rattle.jvm_model.specs.SetImage.{IsImageOf}
+use Rattle.jvm_model.specs.Verdict.{Accepted, IsRefused}
 use Rattle.mote_top.specs.Endings.{typed_status, split_status, form_refusal, check_refusal}
 use Rattle.mote_top.specs.Call.{Spoken}
 use Rattle.mote_top.specs.Reply.{Reply, quiet, RefusesSet, EndsAs, RunsSet, SetReplies, IsNoInfusion, IsInfusion, RefusesInfusion, ImageEndsAs, RunsImage, RunsInfusion, InfusionReplies}
 use Rattle.mote_top.specs.Answer.{IsQuiet}
 use Rattle.mote_top.specs.Storing.{IsRefusedStatus}
-use Rattle.mote_top.proofs.SetLaws.{RunsAlike, accepted_sets_run, image_accepted}
 
 -- ---- runs
 
@@ -65,7 +67,7 @@ same_reply s t d e l m p q r = cc
 -- a run of the image of a set ends as the run of the set
 pub image_ends : (files : List (List ℕ)) (image : Image) → IsImageOf files image → (limits : Limits) (input : List ℕ) (reply : Reply) → ImageEndsAs image limits input reply → EndsAs files limits input reply
 image_ends files image is limits input reply run =
-    let both : RunsAlike files image limits input = (accepted_sets_run files image is).3 limits input in
+    let both : RunsAlike files image limits input = runs_alike files image is limits input in
     let one : run.outcome ≡ both.other = one_ending (machine image limits) (start_of image limits input) run.outcome both.other run.ends both.ends_other in
     let status : split_status image run.outcome.ending ≡ typed_status both.outcome.ending = ap (λ (o : Outcome Ending). split_status image o.ending) one ∙ same_status image both.outcome.ending both.other.ending both.same.ending in
     record {
@@ -83,7 +85,7 @@ on_input (Some input) P Q f on = f input on
 pub set_runs : (files : List (List ℕ)) (image : Image) → IsImageOf files image → (limits : Limits) (left : Option (List ℕ)) (reply : Reply) → RunsImage image limits left reply → SetReplies files limits left reply
 set_runs files image is limits left reply run =
     inl (record {
-      accepted = image_accepted files image is;
+      accepted = is.accepted;
       status = run.status;
       told = on_input left (λ input. ImageEndsAs image limits input reply) (λ input. EndsAs files limits input reply) (λ input ends. image_ends files image is limits input reply ends) run.told;
     })

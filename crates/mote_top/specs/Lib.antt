@@ -2,7 +2,6 @@ pub mod Call
 pub mod Words
 pub mod Status
 pub mod Endings
-pub mod Stub
 pub mod Reply
 pub mod Answer
 pub mod Storing

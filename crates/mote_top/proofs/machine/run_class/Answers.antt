@@ -1,11 +1,30 @@
 use Rattle.std.proofs.Common.{◌≡◌, ℕ, List, ◌∷◌, [], Option, sym, subst}
 use Rattle.image_form.specs.declared.record.Image.{Image}
+use Rattle.image_check.specs.declared.refusal.CheckCause.TheVariants.{Memory as NoCheckMemory}
+use Rattle.infuse_link.proofs.AcceptedSets.{set_image, set_checked, set_built}
+use Rattle.mote_top.specs.declared.status.Status.{Status}
+use Rattle.mote_top.specs.declared.status.Status.TheVariants.{Memory}
 use Rattle.mote_top.specs.Words.{limits_in}
 use Rattle.mote_top.specs.Call.{spoken}
 use Rattle.mote_top.specs.Reply.{Reply, RunsImage, SetReplies, dialogue_of}
-use Rattle.mote_top.proofs.Answering.{Answers-weaker, Answers-quiet}
+use Rattle.mote_top.specs.Answer.{Answers}
+use Rattle.mote_top.proofs.Answering.{Answers-weaker, Answers-quiet, untouched}
 use Rattle.mote_top.proofs.Sets.{set_runs, refused_status, refused_may}
 use Rattle.mote_top.proofs.machine.run_class.Goals as goal
+
+pub check-requires : goal.check-requires
+check-requires g c = set_image (c.args.bytes.items ∷ []) c.in-Ok.image c.in-Ok.ensures.found
+
+-- the image of an accepted set is checked, so there was no memory for the check
+pub returns : goal.returns
+returns g c =
+    let C = g.C.Console in
+    let files = c.args.bytes.items ∷ [] in
+    let found = c.in-Ok.ensures.found in
+    let console = spoken C.left C.shown C.noted C.faults C.room c.args.console.now in
+    let memory : c.in-Err-check.refusal.cause ≡ NoCheckMemory = c.in-Err-check.ensures.only (set_checked files c.in-Ok.image found) (set_built files c.in-Ok.image found) in
+    let is : c.check_refused.result ≡ Memory = c.check_refused.ensures.memory memory in
+    subst (λ (s : Status). Answers dialogue_of (SetReplies files (limits_in c.args.opts) console.left) console console s) (sym is) (untouched console)
 
 pub returns-in-Err : goal.returns-in-Err
 returns-in-Err g c =

@@ -1,6 +1,10 @@
 use Rattle.std.proofs.Common.{◌≡◌, ◌∷◌, [], sym, ap, ◌∙◌}
+use Rattle.infuse_link.proofs.AcceptedSets.{set_image}
 use Rattle.mote_top.proofs.Sets.{refused_status}
 use Rattle.mote_top.proofs.top.infusion_of.Goals as goal
+
+pub write_image-requires : goal.write_image-requires
+write_image-requires c = set_image (c.args.bytes.items ∷ []) c.in-Ok.image c.in-Ok.ensures.found
 
 pub returns-in-Ok-write_image-clause-ok : goal.returns-in-Ok-write_image-clause-ok
 returns-in-Ok-write_image-clause-ok c = record { image = c.in-Ok.image; is_image = c.in-Ok.ensures.found; is_encoding = c.in-Ok-write_image.ensures }
