@@ -1,5 +1,5 @@
 -- Answers: what is said of one reply holds of a wider choice, and the line after it completes it.
-use Rattle.std.proofs.Common.{◌≡◌, ℕ, Bool, true, false, List, [], ◌++◌, Option, refl, sym, ap, subst, ◌∙◌}
+use Rattle.std.proofs.Common.{◌≡◌, ℕ, true, false, List, [], ◌++◌, Option, refl, sym, ap, subst, ◌∙◌}
 use Rattle.std.proofs.lemmas.List.{append-nil}
 use Rattle.dialogue.specs.Dialogue.{Item, gets, noting, gets-noting}
 use Rattle.dialogue.specs.Limits.{Limits}

@@ -1,15 +1,15 @@
 -- What a reply that a call may give says of the words, of the shelf, and of what is kept.
-use Rattle.std.proofs.Common.{◌≡◌, ◌≢◌, ℕ, List, [], ◌∷◌, ◌⊎◌, Option, Some, None, inl, inr, refl, sym, ap, subst, ◌∙◌}
+use Rattle.std.proofs.Common.{◌≡◌, ℕ, List, [], ◌∷◌, Option, Some, None, inl, inr, refl, sym, ap, subst, ◌∙◌}
 use Rattle.std.specs.Prelude.{slice_get}
 use Rattle.std.specs.FinMap.{get}
 use Rattle.dialogue.specs.Limits.{Limits}
 use Rattle.host_face.specs.Shelf.{Files}
 use Rattle.mote_top.specs.declared.status.Status.{Status}
-use Rattle.mote_top.specs.declared.status.Status.TheVariants.{Done, Uncaught, Words, Refused, Infusion, Spent, HeapWanted, StackWanted, ConsoleFault, ShelfFault, Misfit, Memory}
+use Rattle.mote_top.specs.declared.status.Status.TheVariants.{Done, Uncaught, Words, Spent, StackWanted, ShelfFault}
 use Rattle.mote_top.specs.declared.words.Command.TheVariants as commands
-use Rattle.mote_top.specs.Words.{IsName, infuse_of, run_of, go_of, class_place, opts_of, limits_of, FitsOption, FaultsAt}
+use Rattle.mote_top.specs.Words.{IsName, infuse_of, run_of, go_of, class_place, opts_of, FitsOption, FaultsAt}
 use Rattle.mote_top.specs.Call.{Shelved, Call, After}
-use Rattle.mote_top.specs.Reply.{Reply, quiet, HasAt, IsRunEnd, SetReplies, InfusionReplies, StoreReplies, Loads, MayReply, NoCommand, Go, Run, Infuse, NoLoad, NoStore}
+use Rattle.mote_top.specs.Reply.{Reply, HasAt, IsRunEnd, SetReplies, InfusionReplies, StoreReplies, Loads, MayReply, NoCommand, Go, Run, Infuse, NoLoad, NoStore}
 use Rattle.mote_top.specs.Headline.{GoesOn, RunsOn, InfusesTo, IsAnswer, ShelfFailed}
 use Rattle.mote_top.proofs.Commands.{one_slot, go_command, run_command, infuse_command, go_is_no_run, go_is_no_infuse, run_is_no_infuse, one_infuse, one_go, one_run}
 
@@ -128,8 +128,7 @@ module _ (call : Call) (shelf : Shelved) (limits : Limits) (reply : Reply) where
   go_on files others given answer (NoCommand f) = absurd (no_go f.place f.faults given.option given.name given.command given.is_name given.fits)
   go_on files others given answer (Go go) =
       let one = one_go go.option given.option go.name given.name go.fits given.fits (sym go.command ∙ given.command) in
-      let bytes : go.bytes ≡ given.bytes = at_name call.shelf.kept given.kept go.name go.bytes given.bytes given.tells (ap (get given.kept) one.0 ∙ given.found) go.found in
-      (
+      let bytes : go.bytes ≡ given.bytes = at_name call.shelf.kept given.kept go.name go.bytes given.bytes given.tells (ap (get given.kept) one.0 ∙ given.found) go.found in (
         go.limits_are ∙ one.1 ∙ sym given.limits_are,
         subst (λ (f : List (List ℕ)). SetReplies f limits call.console.left reply) (ap (λ (b : List ℕ). b ∷ []) bytes ∙ sym given.files_are) go.replies,
       )

@@ -1,15 +1,12 @@
 -- Which replies a call may give.
-use Rattle.std.proofs.Common.{◌≡◌, ℕ, List, [], ◌∷◌, Option, Some, None, ◌⊎◌, inl, inr, refl, sym, ap, subst, ◌∙◌}
-use Rattle.std.specs.Prelude.{option_map}
+use Rattle.std.proofs.Common.{◌≡◌, ℕ, List, [], ◌∷◌, Option, inl, inr, refl, ap}
 use Rattle.dialogue.specs.Limits.{Limits}
 use Rattle.host_face.specs.Faults.{Rose}
-use Rattle.host_face.specs.Shelf.{Files, NeverFell, ChangesOnly}
+use Rattle.host_face.specs.Shelf.{Files, NeverFell}
 use Rattle.host_face.proofs.TalkLemmas.{Rose-then}
 use Rattle.mote_top.specs.declared.status.Status.{Status}
 use Rattle.mote_top.specs.declared.status.Status.TheVariants.{Done, Words, Refused, ShelfFault, Memory}
 use Rattle.mote_top.specs.declared.words.Opts.{Opts}
-use Rattle.jvm_model.specs.SetImage.{IsImageOf}
-use Rattle.jvm_model.specs.Verdict.{Accepted}
 use Rattle.mote_top.specs.Words.{IsName, infuse_of, run_of, go_of, class_place, opts_of, limits_in, FitsOption, FaultsAt}
 use Rattle.mote_top.specs.Call.{Shelved, Spoken, call}
 use Rattle.mote_top.specs.Reply.{Reply, quiet, HasAt, SetReplies, InfusionReplies, IsInfusionOf, MayReply, NoCommand, Go, Run, Infuse, NoLoad, NoStore}

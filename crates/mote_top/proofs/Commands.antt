@@ -1,13 +1,12 @@
 -- Words are one command at most.
-use Rattle.std.proofs.Common.{◌≡◌, ◌≢◌, ℕ, ◌<◌, ◌^◌, ◌+◌, ◌≤◌, List, [], ◌∷◌, ◌++◌, Option, Some, None, take, drop, inl, inr, refl, sym, ap, subst, ◌∙◌, append_assoc, take-append-drop, arith}
-use Rattle.std.specs.Prelude.{codes, decimal}
+use Rattle.std.proofs.Common.{◌≡◌, ℕ, ◌<◌, ◌^◌, ◌+◌, ◌≤◌, List, ◌++◌, Option, Some, None, take, drop, inl, inr, refl, sym, ap, subst, ◌∙◌, append_assoc, take-append-drop, arith}
+use Rattle.std.specs.Prelude.{decimal}
 use Rattle.std.proofs.lemmas.Fmt.{decimal_injective}
 use Rattle.std.proofs.lemmas.List.{take-take}
 use Rattle.std.proofs.lemmas.Bool.{cases_lt}
 use Rattle.dialogue.specs.Limits.{Limits}
-use Rattle.mote_top.specs.declared.words.Command.{Command}
 use Rattle.mote_top.specs.declared.words.Command.TheVariants.{Infuse, Run, Go}
-use Rattle.mote_top.specs.Words.{IsName, option_words, infuse_of, run_of, go_of, class_place, opts_of, limits_of, FitsOption, IsCommand, Begins, FaultsAt}
+use Rattle.mote_top.specs.Words.{IsName, infuse_of, run_of, go_of, class_place, opts_of, limits_of, FitsOption, IsCommand, Begins, FaultsAt}
 
 -- ---- one place
 

@@ -1,5 +1,5 @@
 -- A call keeps its promises, by its reply.
-use Rattle.std.proofs.Common.{◌≡◌, ℕ, ◌≤◌, List, [], ◌∷◌, ◌++◌, ◌⊎◌, Option, Some, None, inl, inr, refl, sym, ap, subst, ◌∙◌}
+use Rattle.std.proofs.Common.{◌≡◌, ℕ, ◌≤◌, List, ◌++◌, ◌⊎◌, Option, Some, None, inl, inr, refl, sym, ap, subst, ◌∙◌}
 use Rattle.std.specs.Prelude.{◌↔◌, IfSome, option_map}
 use Rattle.std.specs.FinMap.{insert}
 use Rattle.std.proofs.lemmas.List.{append-nil}
@@ -16,17 +16,17 @@ use Rattle.jvm_model.specs.Machine as typed
 use Rattle.jvm_model.proofs.SetRuns.{limited_run_is_one}
 use Rattle.infuse_link.proofs.AcceptedSets.{set_image, set_checked, set_built}
 use Rattle.mote_top.specs.declared.status.Status.{Status}
-use Rattle.mote_top.specs.declared.status.Status.TheVariants.{Done, Uncaught, Words, Refused, Infusion, Spent, HeapWanted, StackWanted, ConsoleFault, ShelfFault, Misfit, Memory}
+use Rattle.mote_top.specs.declared.status.Status.TheVariants.{Done, Words, Refused, ConsoleFault, ShelfFault, Memory}
 use Rattle.jvm_model.specs.SetRun.{LimitedRun}
 use Rattle.jvm_model.specs.SetImage.{IsImageOf}
 use Rattle.jvm_model.specs.Verdict.{Accepted, IsRefused}
 use Rattle.mote_top.specs.Words.{FaultsAt}
 use Rattle.mote_top.specs.Status.{note_of}
 use Rattle.mote_top.specs.Endings.{typed_status, split_status}
-use Rattle.mote_top.specs.Call.{Shelved, Spoken, Call, After}
+use Rattle.mote_top.specs.Call.{Spoken, Call, After}
 use Rattle.mote_top.specs.Reply.{Reply, RefusesSet, EndsAs, SetReplies, IsInfusion, ImageEndsAs, InfusionReplies, IsRunEnd, StoreReplies, MayReply, all_said}
 use Rattle.mote_top.specs.Answer.{Extent, Whole, Part, Nothing, extent, Talked, Replied, AnswersTo, Answers}
-use Rattle.mote_top.specs.Headline.{GoesOn, RunsOn, RunsInfusionOf, InfusesTo, RunsSet, LoadsSet, IsAnswer, IsReplied, Shows, ShowsImage, RanInfusion, SaysNoInfusion, StoresInfusion, HasCause, KeepsShelf, Stays}
+use Rattle.mote_top.specs.Headline.{RunsOn, InfusesTo, RunsSet, LoadsSet, IsAnswer, IsReplied, Shows, ShowsImage, RanInfusion, SaysNoInfusion, StoresInfusion, HasCause, KeepsShelf}
 use Rattle.mote_top.specs.Promises.{Promises}
 use Rattle.mote_top.proofs.Answering.{whole_of}
 use Rattle.mote_top.proofs.Causes.{status_is, may_words, fault_reply, may_shelf, go_on, run_on, infuse_on}

@@ -1,6 +1,5 @@
 -- What follows from the promises.
-use Rattle.std.proofs.Common.{◌≡◌, ◌≢◌, ℕ, List, ◌∷◌, [], ◌⊎◌, Option, Some, None, inl, inr, refl, sym, ap, subst, ◌∙◌}
-use Rattle.std.specs.Cmp.Lexicographic.{nat_list_cmp_total}
+use Rattle.std.proofs.Common.{◌≡◌, ◌≢◌, ℕ, List, ◌∷◌, [], Option, inl, inr, refl, sym, ap, subst, ◌∙◌}
 use Rattle.std.specs.FinMap.{get, insert}
 use Rattle.host_face.specs.Shelf.{Files}
 use Rattle.image_form.specs.Format.{encoding}
@@ -10,7 +9,6 @@ use Rattle.mote_top.specs.declared.status.Status.TheVariants.{ConsoleFault, Shel
 use Rattle.jvm_model.specs.Verdict.{IsRefused}
 use Rattle.mote_top.specs.Words.{IsName, FitsOption, run_of, limits_of}
 use Rattle.mote_top.specs.Call.{Call, After}
-use Rattle.mote_top.specs.Reply.{HasAt}
 use Rattle.mote_top.specs.Headline.{RunsSet, InfusesTo, StoresInfusion, IsAnswer, HasCause, ChangesOwn, NoneRose}
 use Rattle.mote_top.specs.Promises.{Promises}
 use Rattle.mote_top.proofs.Causes.{at_name}

@@ -1,7 +1,6 @@
 -- What the run of a mote answers is the reply of its image.
-use Rattle.std.proofs.Common.{◌≡◌, ℕ, List, Option, Some, None, refl, sym, ap, subst, ◌∙◌}
+use Rattle.std.proofs.Common.{◌≡◌, ℕ, List, Option, Some, None, refl, ap, subst}
 use Rattle.std.specs.Prelude.{IfSome}
-use Rattle.dialogue.specs.Dialogue.{Item}
 use Rattle.dialogue.specs.Outcome.{Outcome}
 use Rattle.image_form.specs.declared.record.Image.{Image}
 use Rattle.mote_model.specs.declared.ending.Ending.{Ending}
@@ -10,7 +9,6 @@ use Rattle.mote_core.specs.Ready.{Ready, limits_of}
 use Rattle.mote_core.specs.Good.{IsStepEnding}
 use Rattle.mote_core.specs.Ran as ran
 use Rattle.mote_core.specs.Ran.{MayEnd, Ended, IsEndingSoFar, Ran}
-use Rattle.mote_top.specs.declared.status.Status.{Status}
 use Rattle.mote_top.specs.Endings.{split_status}
 use Rattle.mote_top.specs.Call.{Spoken, spoken}
 use Rattle.mote_top.specs.Reply.{Reply, RunsImage, ImageEndsAs, IsRunEnd, dialogue_of}

@@ -1,5 +1,5 @@
 -- What runs of images and refusals are as replies of sets and of infusions.
-use Rattle.std.proofs.Common.{◌≡◌, ℕ, List, [], ◌∷◌, Option, Some, None, ◌⊎◌, inl, inr, refl, sym, ap, subst, ◌∙◌}
+use Rattle.std.proofs.Common.{◌≡◌, ℕ, List, Option, Some, None, ◌⊎◌, inl, inr, refl, sym, ap, subst, ◌∙◌}
 use Rattle.std.specs.Prelude.{IfSome, Result, Ok, Err}
 use Rattle.dialogue.specs.Dialogue.{Item}
 use Rattle.dialogue.specs.Limits.{Limits}
@@ -15,7 +15,6 @@ use Rattle.image_form.proofs.Whole.{one_image, encoding_reads, refused_reads}
 use Rattle.image_check.specs.declared.refusal.CheckCause.{CheckCause}
 use Rattle.image_check.specs.declared.refusal.CheckCause.TheVariants.{Memory as NoCheckMemory, Unbuilt as CheckUnbuilt}
 use Rattle.image_check.specs.declared.refusal.CheckRefusal.{CheckRefusal}
-use Rattle.image_check.specs.Checked.{IsChecked, IsBuilt}
 use Rattle.image_check.specs.Refused as check
 use Rattle.image_check.proofs.Apart.{refused_not_checked}
 use Rattle.jvm_model.specs.declared.refusal.Cause.{Cause}
@@ -30,13 +29,11 @@ use Rattle.infuse_link.specs.RunsAlike.{SameEnding, RunsAlike}
 use Rattle.infuse_link.proofs.AcceptedSets.{set_runs as runs_alike}
 use Rattle.mote_top.specs.declared.status.ImageRefusal.{ImageRefusal}
 use Rattle.mote_top.specs.declared.status.Status.{Status}
-use Rattle.mote_top.specs.declared.status.Status.TheVariants.{Done, Uncaught, Refused, Infusion, Spent, HeapWanted, StackWanted, Memory}
-use Rattle.jvm_model.specs.SetRun.{LimitedRun}
+use Rattle.mote_top.specs.declared.status.Status.TheVariants.{Uncaught, Refused, Infusion, HeapWanted, StackWanted, Memory}
 use Rattle.jvm_model.specs.SetImage.{IsImageOf}
-use Rattle.jvm_model.specs.Verdict.{Accepted, IsRefused}
+use Rattle.jvm_model.specs.Verdict.{IsRefused}
 use Rattle.mote_top.specs.Endings.{typed_status, split_status, form_refusal, check_refusal}
-use Rattle.mote_top.specs.Call.{Spoken}
-use Rattle.mote_top.specs.Reply.{Reply, quiet, RefusesSet, EndsAs, RunsSet, SetReplies, IsNoInfusion, IsInfusion, RefusesInfusion, ImageEndsAs, RunsImage, RunsInfusion, InfusionReplies}
+use Rattle.mote_top.specs.Reply.{Reply, EndsAs, SetReplies, IsNoInfusion, IsInfusion, ImageEndsAs, RunsImage, InfusionReplies}
 use Rattle.mote_top.specs.Answer.{IsQuiet}
 use Rattle.mote_top.specs.Storing.{IsRefusedStatus}
 

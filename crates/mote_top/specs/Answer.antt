@@ -1,5 +1,5 @@
 -- How much of a reply a call gave: all of it, what came before a failure of the console, or nothing.
-use Rattle.std.specs.Prelude.{◌≡◌, ℕ, ◌≤◌, true, false, List, Option}
+use Rattle.std.specs.Prelude.{◌≡◌, ◌≤◌, true, false, List}
 use Rattle.dialogue.specs.Dialogue.{Item, gets, noting}
 use Rattle.dialogue.specs.Limits.{Limits}
 use Rattle.host_face.specs.Talk as talk

@@ -20,8 +20,8 @@ use Rattle.jvm_model.specs.Verdict.{Accepted}
 use Rattle.mote_top.specs.Words.{IsName, infuse_of, run_of, go_of, limits_of, FitsOption}
 use Rattle.mote_top.specs.Status.{note_of}
 use Rattle.mote_top.specs.Endings.{split_status}
-use Rattle.mote_top.specs.Call.{Shelved, Spoken, Call, After}
-use Rattle.mote_top.specs.Answer.{Extent, Whole, extent, Answers, Untouched}
+use Rattle.mote_top.specs.Call.{Shelved, Call, After}
+use Rattle.mote_top.specs.Answer.{Answers, Untouched}
 use Rattle.mote_top.specs.Reply.{HasAt, IsNoInfusion, IsInfusion, Loads, MayReply, all_said}
 
 -- ---- what a call is

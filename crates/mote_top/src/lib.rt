@@ -17,7 +17,8 @@ mod top;
 mod words;
 
 pub use laws::{
-    calls_without_faults_answer, infusions_are_one_or_none, refused_sets_store_nothing, stored_sets_run,
+    calls_without_faults_answer, infusions_are_one_or_none, refused_sets_store_nothing,
+    stored_sets_run,
 };
 pub use program::mote;
 pub use status::{ImageCause, ImageRefusal, Status};

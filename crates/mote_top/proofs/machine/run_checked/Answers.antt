@@ -1,7 +1,6 @@
-use Rattle.std.proofs.Common.{◌≡◌, sym, ap, subst, ◌∙◌}
+use Rattle.std.proofs.Common.{◌≡◌, ap, subst, ◌∙◌}
 use Rattle.mote_core.specs.Ready.{Ready}
 use Rattle.mote_core.specs.Ran.{Ran}
-use Rattle.mote_top.specs.Endings.{split_status}
 use Rattle.mote_top.proofs.RunAnswers.{run_answers}
 use Rattle.mote_top.proofs.machine.run_checked.Goals as goal
 

@@ -1,4 +1,4 @@
-use Rattle.std.proofs.Common.{◌≡◌, ℕ, List, ◌∷◌, [], Option, sym, subst}
+use Rattle.std.proofs.Common.{◌≡◌, ◌∷◌, [], sym, subst}
 use Rattle.image_form.specs.declared.record.Image.{Image}
 use Rattle.image_check.specs.declared.refusal.CheckCause.TheVariants.{Memory as NoCheckMemory}
 use Rattle.infuse_link.proofs.AcceptedSets.{set_image, set_checked, set_built}

@@ -1,4 +1,4 @@
-use Rattle.std.proofs.Common.{◌≡◌, ℕ, List, Option, sym, subst}
+use Rattle.std.proofs.Common.{◌≡◌, subst}
 use Rattle.image_form.specs.declared.record.Image.{Image}
 use Rattle.mote_top.specs.Words.{limits_in}
 use Rattle.mote_top.specs.Call.{spoken}

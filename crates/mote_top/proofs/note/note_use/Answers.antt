@@ -1,9 +1,7 @@
-use Rattle.std.proofs.Common.{ℕ, List, ◌∷◌, [], ◌++◌, subst}
+use Rattle.std.proofs.Common.{◌∷◌, [], ◌++◌}
 use Rattle.std.specs.Prelude.{codes}
 use Rattle.std.proofs.lemmas.Result.{err_from_is_err_and}
-use Rattle.dialogue.specs.Dialogue.{noting}
-use Rattle.host_face.specs.Talk.{Says}
-use Rattle.mote_top.specs.Status.{blank_number, line, image_word}
+use Rattle.mote_top.specs.Status.{blank_number, line}
 use Rattle.mote_top.proofs.Notes.{Noting-prefix, Noting-last}
 use Rattle.mote_top.proofs.note.note_use.Goals as goal
 

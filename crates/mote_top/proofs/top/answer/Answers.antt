@@ -1,4 +1,4 @@
-use Rattle.std.proofs.Common.{◌≡◌, ℕ, List, Option, map, refl, sym, ap, subst, ◌∙◌}
+use Rattle.std.proofs.Common.{◌≡◌, ℕ, List, map, sym, ap, subst, ◌∙◌}
 use Rattle.std.specs.String.{string_bytes}
 use Rattle.mote_top.specs.declared.words.Opts.{Opts}
 use Rattle.mote_top.specs.Words.{infuse_of, run_of, go_of, opts_for, limits_in, IsInfuse, IsRun, IsGo, IsCommand}

@@ -1,6 +1,5 @@
-use Rattle.std.proofs.Common.{◌≡◌, ℕ, List, ◌∷◌, [], Option, refl, sym, subst}
+use Rattle.std.proofs.Common.{◌∷◌, [], Option, refl, sym, subst}
 use Rattle.host_face.specs.Shelf.{Files}
-use Rattle.mote_top.specs.Words.{infuse_of}
 use Rattle.mote_top.specs.Call.{shelved}
 use Rattle.mote_top.specs.Reply.{IsInfusionOf}
 use Rattle.mote_top.specs.Storing.{IsStored}

@@ -1,4 +1,4 @@
-use Rattle.std.proofs.Common.{◌≡◌, ◌∷◌, [], sym, ap, ◌∙◌}
+use Rattle.std.proofs.Common.{◌∷◌, []}
 use Rattle.infuse_link.proofs.AcceptedSets.{set_image}
 use Rattle.mote_top.proofs.Sets.{refused_status}
 use Rattle.mote_top.proofs.top.infusion_of.Goals as goal

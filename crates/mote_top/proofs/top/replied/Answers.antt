@@ -1,6 +1,5 @@
-use Rattle.std.proofs.Common.{◌≡◌, ℕ, List, Option, None, map, refl, sym, ap, subst, ◌∙◌}
+use Rattle.std.proofs.Common.{None, map, refl, subst}
 use Rattle.std.specs.String.{string_bytes}
-use Rattle.mote_top.specs.declared.status.Status.{Status}
 use Rattle.mote_top.specs.declared.status.Status.TheVariants.{Words}
 use Rattle.mote_top.specs.declared.words.Opts.{Opts}
 use Rattle.mote_top.specs.Words.{opts_for, opts_of, limits_in}

@@ -1,4 +1,4 @@
-use Rattle.std.proofs.Common.{◌≡◌, ℕ, List, ◌∷◌, [], refl, sym, subst}
+use Rattle.std.proofs.Common.{refl}
 use Rattle.mote_top.specs.declared.status.Status.TheVariants.{ShelfFault}
 use Rattle.mote_top.specs.Words.{run_of, limits_in}
 use Rattle.mote_top.specs.Call.{shelved, spoken, call}
