@@ -1,5 +1,5 @@
 -- The image of an accepted set is of the grammar, checked and built, and it runs as the set does.
-use Rattle.std.proofs.Common.{◌≡◌, ℕ, List, sym, subst}
+use Rattle.std.proofs.Common.{ℕ, List, sym, subst}
 use Rattle.dialogue.specs.Limits.{Limits}
 use Rattle.image_form.specs.declared.record.Image.{Image}
 use Rattle.image_form.specs.Grammar.{IsImage}
