@@ -1,3 +1,4 @@
+use crate::bytes::bytes_of;
 use crate::fault::RowFault;
 use std::alloc::Global;
 
@@ -22,10 +23,19 @@ impl Names {
     }
 
     /// Gives the bytes this name.
-    pub fn add(&mut self, alloc: Global, name: &str, bytes: Vec<u8>) -> Result<(), RowFault> {
+    fn add(&mut self, alloc: Global, name: &str, bytes: Vec<u8>) -> Result<(), RowFault> {
         let name = String::from_str(alloc, name)?;
         self.entries.push(Entry { name, bytes })?;
         Ok(())
+    }
+
+    /// Takes a name, and what bytes it is given.
+    pub fn take(&mut self, alloc: Global, text: &str) -> Result<(), RowFault> {
+        let Some((name, bytes)) = text.split_once(' ') else {
+            return Err(RowFault::Lacking);
+        };
+        let bytes = bytes_of(alloc, self, bytes)?;
+        self.add(alloc, name, bytes)
     }
 
     /// The bytes of this name.

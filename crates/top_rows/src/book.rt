@@ -1,6 +1,6 @@
 use crate::kinds::fell_short;
 use crate::row::{Kind, Row};
-use row_form::{Names, RowFault, Tally, bytes_of, key_of};
+use row_form::{Names, RowFault, Tally, key_of};
 use std::alloc::{AllocError, Global};
 
 /// The rows as they are read: names of bytes, the row that is being read, and what came of those before.
@@ -54,7 +54,7 @@ impl Book {
 
     /// Takes a line that names bytes.
     fn take_name(&mut self, alloc: Global, rest: &str) -> Result<(), AllocError> {
-        match named(alloc, &mut self.names, rest) {
+        match self.names.take(alloc, rest) {
             Ok(()) => Ok(()),
             Err(fault) => self.fell(alloc, rest, fault),
         }
@@ -101,13 +101,4 @@ fn kind_of(key: &str) -> Option<Kind> {
         "failing" => Some(Kind::Failing),
         _ => None,
     }
-}
-
-/// Gives bytes a name.
-fn named(alloc: Global, names: &mut Names, text: &str) -> Result<(), RowFault> {
-    let Some((name, bytes)) = text.split_once(' ') else {
-        return Err(RowFault::Lacking);
-    };
-    let bytes = bytes_of(alloc, names, bytes)?;
-    names.add(alloc, name, bytes)
 }
