@@ -16,7 +16,5 @@ mod outside;
 mod reach;
 mod sets;
 mod stop;
-#[cfg(test)]
-mod tests;
 
 pub use infusing::infuse;
