@@ -1,10 +1,12 @@
-//! Calls of the readers of class files by their public names, with ample memory: what a reader lends is
-//! looked at by patterns that name every field. What is data stands in `class_rows`. This crate has tests
-//! alone, and stands on `class_pool`, `class_file` and `class_code`.
+//! Calls of the readers and the writer of class files by their public names, with ample memory: what a
+//! reader lends is looked at by patterns that name every field. What is data stands in `class_rows`. This
+//! crate has tests alone, and stands on `class_pool`, `class_file`, `class_make` and `class_code`.
 #![tactic(auto)]
 
 #[cfg(test)]
 mod code;
+#[cfg(test)]
+mod drafts;
 #[cfg(test)]
 mod files;
 #[cfg(test)]
