@@ -1,6 +1,6 @@
-//! Calls of the readers and the writer of class files by their public names, with ample memory: what a
-//! reader lends is looked at by patterns that name every field. What is data stands in `class_rows`. This
-//! crate has tests alone, and stands on `class_pool`, `class_file`, `class_make` and `class_code`.
+//! Calls of the decoder and of the writer of class files by their public names, with ample memory. What is
+//! data stands in `class_rows`. This crate has tests alone, and stands on `class_pool`, `class_file`,
+//! `class_make` and `class_code`.
 #![tactic(auto)]
 
 #[cfg(test)]
@@ -8,6 +8,4 @@ mod code;
 #[cfg(test)]
 mod drafts;
 #[cfg(test)]
-mod files;
-#[cfg(test)]
-mod pools;
+mod laws;

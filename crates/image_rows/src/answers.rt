@@ -18,6 +18,7 @@ impl Reader for ImageReader {
     ) -> Result<Option<String>, AllocError> {
         match question {
             "form" => Ok(Some(form(alloc, bytes)?)),
+            "record" => Ok(Some(record(alloc, bytes)?)),
             "check" => Ok(Some(checked(alloc, bytes)?)),
             "code" => Ok(Some(code(alloc, bytes)?)),
             "switch" => Ok(Some(switch(alloc, bytes)?)),
@@ -42,6 +43,14 @@ fn written(alloc: Global, bytes: &[u8], image: &Image) -> Result<String, AllocEr
         Ok(same) if same.as_slice() == bytes => String::from_str(alloc, "an infusion"),
         Ok(_) => String::from_str(alloc, "other bytes"),
         Err(_) => String::from_str(alloc, "Memory"),
+    }
+}
+
+/// Why the bytes are no infusion, or the image that they say.
+fn record(alloc: Global, bytes: &[u8]) -> Result<String, AllocError> {
+    match read_image(alloc, bytes) {
+        Ok(image) => format!(in alloc; "{image:?}"),
+        Err(why) => format!(in alloc; "{why:?}"),
     }
 }
 
