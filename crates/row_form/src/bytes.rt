@@ -16,7 +16,11 @@ pub fn bytes_of(alloc: Global, names: &Names, text: &str) -> Result<Vec<u8>, Row
         }
         quoted = !quoted;
     }
-    if quoted { Ok(bytes) } else { Err(RowFault::Quote) }
+    if quoted {
+        Ok(bytes)
+    } else {
+        Err(RowFault::Quote)
+    }
 }
 
 /// Puts in the parts of a text without quotes.

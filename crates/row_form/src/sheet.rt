@@ -185,6 +185,10 @@ impl Row {
             falls.push(format!(in alloc; "{}: {fault}", self.name)?)?;
             return Ok(());
         }
+        if self.kind != Kind::Ask && self.bytes.is_empty() {
+            falls.push(format!(in alloc; "{}: no bytes", self.name)?)?;
+            return Ok(());
+        }
         match self.kind {
             Kind::Ask => self.ask(alloc, reader, self.bytes.as_slice(), true, falls),
             Kind::Prefixes => self.prefixes(alloc, reader, falls),

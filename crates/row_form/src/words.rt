@@ -22,7 +22,11 @@ pub fn words_of(alloc: Global, text: &str) -> Result<Vec<String>, RowFault> {
         }
         quoted = !quoted;
     }
-    if quoted { Ok(words) } else { Err(RowFault::Quote) }
+    if quoted {
+        Ok(words)
+    } else {
+        Err(RowFault::Quote)
+    }
 }
 
 /// Puts in the words of a text without quotes.

@@ -94,7 +94,10 @@ pub(crate) fn told(
 ) -> Result<String, AllocError> {
     let shown = String::from_utf8_lossy(alloc, answer.console.shown())?;
     let noted = String::from_utf8_lossy(alloc, answer.console.noted())?;
-    format!(in alloc; "{}: {words:?}: code {}, shown {shown:?}, noted {noted:?}", row.name, answer.code)
+    format!(in alloc;
+        "{}: {words:?}: code {}, shown {shown:?}, noted {noted:?}",
+        row.name, answer.code
+    )
 }
 
 /// Sees that the shelf keeps what the row says.

@@ -85,7 +85,14 @@ fn each_call(alloc: Global, row: &Row, falls: &mut Vec<String>) -> Result<(), Al
         if row.infused {
             infuse(alloc, row, &mut shelf, falls)?;
         }
-        call(alloc, row, words.as_slice(), &mut shelf, &wanted(row), falls)?;
+        call(
+            alloc,
+            row,
+            words.as_slice(),
+            &mut shelf,
+            &wanted(row),
+            falls,
+        )?;
         keeps(alloc, row, &shelf, falls)?;
     }
     Ok(())
@@ -153,6 +160,9 @@ fn prefixes(alloc: Global, row: &Row, falls: &mut Vec<String>) -> Result<(), All
     let Some((file, _)) = first(row) else {
         return fell(alloc, row, "no file or no call", falls);
     };
+    if file.bytes.is_empty() {
+        return fell(alloc, row, "an empty file", falls);
+    }
     for length in 0..file.bytes.len() {
         prefix(alloc, row, &file.bytes.as_slice()[..length], falls)?;
     }
@@ -195,6 +205,9 @@ fn changes(alloc: Global, row: &Row, falls: &mut Vec<String>) -> Result<(), Allo
     let Some((file, _)) = first(row) else {
         return fell(alloc, row, "no file or no call", falls);
     };
+    if file.bytes.is_empty() || row.by.is_empty() {
+        return fell(alloc, row, "an empty file or no difference", falls);
+    }
     for place in 0..file.bytes.len() {
         for by in row.by.as_slice() {
             change(alloc, row, place, *by, falls)?;
@@ -245,6 +258,9 @@ fn fits(code: u8, noted: &[u8]) -> bool {
 
 /// Each call on the console fails in turn.
 fn failing(alloc: Global, row: &Row, falls: &mut Vec<String>) -> Result<(), AllocError> {
+    if row.shown.is_empty() && row.noted.is_empty() {
+        return fell(alloc, row, "no call of the console", falls);
+    }
     for place in 0..row.shown.len() {
         let want = fault_at(place, &row.shown.as_slice()[..place], b"");
         each_fault(alloc, row, &want, falls)?;
