@@ -12,8 +12,6 @@ mod read;
 mod shape;
 mod signature;
 mod switch;
-#[cfg(test)]
-mod tests;
 mod write;
 
 pub use insn::{Condition, Element, Kind, MInsn, Operation, RefTest, SwitchRow, Width};

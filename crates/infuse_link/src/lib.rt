@@ -17,8 +17,6 @@ mod outside;
 mod reach;
 mod sets;
 mod stop;
-#[cfg(test)]
-mod tests;
 
 pub use infusing::infuse;
 pub use laws::accepted_sets_run;

@@ -11,8 +11,6 @@ mod machine;
 mod note;
 mod program;
 mod status;
-#[cfg(test)]
-mod tests;
 mod top;
 mod words;
 
