@@ -2,7 +2,8 @@
 use Rattle.std.proofs.Common.{◌≡◌, ℕ, suc, ◌-◌, ◌+◌, ◌≤◌, ◌<◌, List, [], ◌∷◌, ◌++◌, Result, Ok, Err, refl, sym, subst, ◌∙◌, arith}
 use Rattle.class_file.specs.declared.refusal.ReadRefusal.{ReadRefusal}
 use Rattle.class_file.specs.declared.refusal.ReadRefusal.TheVariants.{NotClass, Version, Truncated, TrailingBytes, BadPool, BadShape, BadDescriptor, TooLarge, Memory}
-use Rattle.class_file.specs.Reading.{◌>>=◌, Gives, steps_at, one_more}
+use Rattle.byte_read.specs.Reading.{◌>>=◌, steps_at, one_more}
+use Rattle.class_file.specs.Reading.{Gives}
 
 -- a refusal of a first step is that of the whole
 pub passed : {A B : Type 0} (why : ReadRefusal) (read : Result A ReadRefusal) (f : A → Result B ReadRefusal) → Gives (λ x. x) (Err why) read → Gives (λ x. x) (Err why) (read >>= f)

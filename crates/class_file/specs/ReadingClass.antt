@@ -13,7 +13,8 @@ use Rattle.class_file.specs.declared.refusal.ReadRefusal.TheVariants.{NotClass, 
 use Rattle.class_file.specs.Layout.{magic}
 use Rattle.class_file.specs.Rules.{are_class_flags, names_class}
 use Rattle.class_file.specs.Relation.{largest}
-use Rattle.class_file.specs.Reading.{◌>>=◌, u2_at, list_at}
+use Rattle.byte_read.specs.Reading.{◌>>=◌}
+use Rattle.class_file.specs.Reading.{u2_at, list_at}
 use Rattle.class_file.specs.ReadingMembers.{fields_at, methods_at, skip_all_at}
 
 -- a length in its field, or the field's greatest number

@@ -13,7 +13,8 @@ use Rattle.class_file.specs.declared.record.Member.{Member}
 use Rattle.class_file.specs.declared.refusal.ReadRefusal.{ReadRefusal}
 use Rattle.class_file.specs.declared.refusal.ReadRefusal.TheVariants.{BadShape, BadDescriptor}
 use Rattle.class_file.specs.Rules.{is_native, is_abstract, is_named, has_one_access, fits_interface_field, fits_interface_method, fits_abstract, fits_special_name, fits_constructor, fits_initialiser, fits_slots, is_same_member, is_code_size, is_handler}
-use Rattle.class_file.specs.Reading.{◌>>=◌, u2_at, u4_at, slice_at, counted_at, list_at}
+use Rattle.byte_read.specs.Reading.{◌>>=◌}
+use Rattle.class_file.specs.Reading.{u2_at, u4_at, slice_at, counted_at, list_at}
 
 -- ---- attributes as such (JVMS 4.7)
 

@@ -2,7 +2,8 @@
 
 ghost use Rattle.std.specs.Prelude.{◌≡◌, [], List};
 ghost use Rattle.class_file.specs.Rules.{is_code_size, is_catch_type, is_handler};
-ghost use Rattle.class_file.specs.Reading.{Gives, steps_at, one_more};
+ghost use Rattle.byte_read.specs.Reading.{steps_at, one_more};
+ghost use Rattle.class_file.specs.Reading.{Gives};
 ghost use Rattle.class_file.specs.ReadingMembers.{handler_at, handlers_at, code_bytes_at, code_parts, as_shape, code_at};
 
 use crate::attribute::{info_at, skip_all_at};

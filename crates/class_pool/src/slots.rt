@@ -7,9 +7,10 @@ ghost use Rattle.class_pool.specs.Pool.{Slots, is_linked, is_wide, IsPoolAt};
 ghost use Rattle.class_pool.specs.PoolRefused.{IsRefused, Shows, Gives};
 ghost use Rattle.class_pool.specs.PoolReading.{slot_at, is_first_of_two, slots_at, is_slot_linked, first_unlinked, pool_at, pool_from};
 
-use crate::entry::{entry_at, u2_at};
+use crate::entry::entry_at;
 use crate::pool::{Const, Pool};
 use crate::refusal::PoolRefusal;
+use byte_read::u2_at;
 use std::alloc::Global;
 
 /// The entry takes two places (JVMS 4.4.5).
@@ -121,7 +122,7 @@ fn first_unlinked(pool: &Pool) -> Option<u16>
 fn pool_at(alloc: Global, bytes: &[u8]) -> Result<(Pool, &[u8]), PoolRefusal>
     ensures { Shows (λ x. (x.0, x.1.now)) result (pool_at bytes.now) }
 {
-    let (count, rest) = u2_at(bytes)?;
+    let (count, rest) = u2_at(PoolRefusal::Truncated, bytes)?;
     if count == 0 {
         return Err(PoolRefusal::BadIndex { index: 0 });
     }

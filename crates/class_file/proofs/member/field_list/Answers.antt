@@ -1,6 +1,6 @@
 use Rattle.std.proofs.Common.{◌≡◌, ◌++◌, ◌∷◌, [], rules}
 use Rattle.std.proofs.lemmas.Result.{err_from_is_err_and}
-use Rattle.class_file.specs.Reading.{steps_at, one_more}
+use Rattle.byte_read.specs.Reading.{steps_at, one_more}
 use Rattle.class_file.specs.ReadingMembers.{field_at}
 use Rattle.class_file.proofs.Loop.{item_goes_on, item_ends, is_done}
 use Rattle.class_file.proofs.SameTexts.{none_seen}

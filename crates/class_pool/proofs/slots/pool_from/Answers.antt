@@ -1,5 +1,5 @@
 use Rattle.std.proofs.Common.{arith, length-drop}
-use Rattle.class_pool.proofs.Steps.{IsBytes-drop, IsBytes-take}
+use Rattle.byte_read.proofs.Steps.{IsBytes-drop, IsBytes-take}
 use Rattle.class_pool.proofs.Pools.{rest_is_short}
 use Rattle.class_pool.proofs.slots.pool_from.Goals as goal
 
