@@ -1,12 +1,12 @@
 -- What a step of reading took from the bytes, and what joins the steps.
-use Rattle.std.proofs.Common.{◌≡◌, ◌⊎◌, ℕ, suc, ◌+◌, ◌^◌, ◌<◌, ◌≤◌, Bool, true, false, cond, ltb, List, ◌∷◌, ◌++◌, length, get_or, take, drop, Result, Ok, Err, refl, sym, ap, subst, ◌∙◌, append_assoc, arith, inl, inr}
+use Rattle.std.proofs.Common.{◌≡◌, ◌⊎◌, ℕ, suc, ◌+◌, ◌^◌, ◌<◌, ◌≤◌, Bool, true, false, cond, ltb, List, [], ◌∷◌, ◌++◌, length, get_or, take, drop, Result, Ok, Err, refl, sym, ap, subst, ◌∙◌, append_assoc, arith, inl, inr}
 use Rattle.std.specs.Int.{w16, w32, w64, from_be_bytes}
 use Rattle.std.proofs.lemmas.Nat.{be_bytes_2, be_bytes_4, be_bytes_8}
 use Rattle.std.proofs.lemmas.Bool.{cases_lt, ltb-false, ltb-true, lt-ltb, le-ltb}
 use Rattle.std.proofs.lemmas.List.{take_at, drop_at, take-append-drop, length-append, length-take, get_or-drop, get_or-take, get_or_past}
 use Rattle.byteorder.specs.Endian.{big_bytes, big_number}
 use Rattle.byteorder.specs.Numbers.{big_number-reads_back, big_from-take, big_from-lt}
-use Rattle.byte_read.specs.Reading.{◌>>=◌, number_at, slice_at}
+use Rattle.byte_read.specs.Reading.{◌>>=◌, u1_at, number_at, slice_at}
 
 -- ---- lists of bytes
 
@@ -154,6 +154,21 @@ back_8 bytes long fits =
 -- ---- numbers and slices
 
 module _ {E : Type 0} (missed : E) where
+  pub u1_takes : (bytes : List ℕ) (x : ℕ × List ℕ) → IsBytes bytes → u1_at missed bytes ≡ Ok x → Takes bytes (x.0 ∷ []) x.1 × (x.0 < 2 ^ 8)
+  unfolding u1_at
+  u1_takes [] x fits e = absurd (no_failure x missed (sym e))
+  u1_takes (byte ∷ rest) x fits e =
+      subst (λ (y : ℕ × List ℕ). Takes (byte ∷ rest) (y.0 ∷ []) y.1 × (y.0 < 2 ^ 8)) (ok_is {E = E} (byte, rest) x e) (record { parts = refl; rest_fits = IsBytes-rest byte rest fits }, fits 0)
+
+  pub u1_fails : (bytes : List ℕ) (why : E) → u1_at missed bytes ≡ Err why → (length bytes < 1) × (why ≡ missed)
+  unfolding u1_at
+  u1_fails [] why e = (omega arith, sym (same_why {A = ℕ × List ℕ} missed why e))
+  u1_fails (byte ∷ rest) why e = absurd (no_failure (byte, rest) why e)
+
+  pub u1_again : (n : ℕ) (rest : List ℕ) → u1_at missed (n ∷ rest) ≡ Ok (n, rest)
+  unfolding u1_at
+  u1_again n rest = refl
+
   number_takes : (size : ℕ) (bytes : List ℕ) (x : ℕ × List ℕ) → IsBytes bytes → (size ≤ length bytes → big_bytes size (big_number size bytes) ≡ take size bytes) → number_at missed size bytes ≡ Ok x → Takes bytes (big_bytes size x.0) x.1 × (x.0 < 256 ^ size)
   unfolding number_at
   number_takes size bytes x fits back e =
