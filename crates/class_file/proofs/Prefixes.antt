@@ -142,7 +142,7 @@ prefixes_of_truncated prefix rest e long =
 -- ---- versions
 
 -- bytes that end within the version
-version_short : (bytes : List ℕ) → length bytes < 4 → version_at bytes ≡ Err Truncated
+pub version_short : (bytes : List ℕ) → length bytes < 4 → version_at bytes ≡ Err Truncated
 unfolding version_at
 version_short bytes short =
     elim (cases_lt (length bytes) 2) [

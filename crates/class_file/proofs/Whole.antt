@@ -24,7 +24,7 @@ pub record IsBegun (bytes : List ℕ) : Type 0 where
   pub size : length bytes ≤ largest
   pub begins : take 4 bytes ≡ magic
 
-is_magic : (bytes : List ℕ) → bytes_eq (take 4 bytes) magic ≡ true → take 4 bytes ≡ magic
+pub is_magic : (bytes : List ℕ) → bytes_eq (take 4 bytes) magic ≡ true → take 4 bytes ≡ magic
 is_magic bytes e = (bytes_eq-Decides (take 4 bytes) magic).0 e
 
 pub class_rest : (bytes : List ℕ) → IsBegun bytes → class_of bytes ≡ body_of (drop 4 bytes)

@@ -75,6 +75,12 @@ members_at class_flags pool bytes = do
   rest ← skip_all_at pool methods.1
   Ok ((fields.0, methods.0), rest)
 
+-- the length, the magic and the version
+unfoldable pub start_of : List ℕ → Result ((ℕ × ℕ) × List ℕ) ReadRefusal
+start_of bytes =
+    if nat_lt largest (length bytes) then Err (TooLarge (capped (length bytes)))
+    else (if bytes_eq (take 4 bytes) magic then version_at (drop 4 bytes) else Err NotClass)
+
 -- what follows the magic
 unfoldable pub body_of : List ℕ → Result ClassFile ReadRefusal
 body_of bytes = do

@@ -13,6 +13,8 @@ use Rattle.class_pool.specs.declared.refusal.PoolRefusal.TheVariants.{Truncated,
 use Rattle.class_pool.specs.Utf8.{IsModifiedUtf8}
 use Rattle.class_pool.specs.Pool.{FitsFields, FitsEntry}
 use Rattle.byte_read.specs.Reading.{◌>>=◌, number_at}
+use Rattle.class_pool.specs.PoolRefused.{ShowsGood}
+use Rattle.class_pool.proofs.Steps.{missed_shows}
 use Rattle.class_pool.specs.PoolReading.{u2_at, slice_at, size_at, parts_size, text_of, entry_of, body_at, is_modified_utf8}
 use Rattle.class_pool.proofs.Texts.{text_takes, text_again}
 use Rattle.byte_read.proofs.Steps.{u2, IsBytes, back_2, bind_then, bind_fails, ok_is, same_why, true_false, pair, no_failure, then_ok, then_err, Takes, joined, u2_takes, number_fails, number_short, u2_again, slice_takes, slice_fails, slice_short, slice_again}
@@ -375,3 +377,18 @@ fails_by index tag bytes why fits (inl is) e =
 
 pub body_fails : (index : ℕ) (tag : Tag) (bytes : List ℕ) (why : PoolRefusal) → IsBytes bytes → body_at index tag bytes ≡ Err why → FailsBody index tag bytes why
 body_fails index tag bytes why fits e = fails_by index tag bytes why fits (text_or_fixed tag) e
+
+-- ---- bytes that are missed
+
+size_missed : (tag : Tag) (bytes : List ℕ) (why : PoolRefusal) → size_at tag bytes ≡ Err why → why ≡ Truncated
+unfolding size_at
+size_missed TagUtf8 bytes why e = (number_fails Truncated 2 bytes why e).1
+size_missed tag bytes why e = absurd (no_failure (parts_size tag, bytes) why e)
+
+pub size_stops : (index : ℕ) (tag : Tag) (bytes : List ℕ) (why : PoolRefusal) → size_at tag bytes ≡ Err why → ShowsGood (λ x. x) (Err why) (body_at index tag bytes)
+unfolding body_at
+size_stops index tag bytes why e = missed_shows why _ (size_missed tag bytes why e) (then_err _ e)
+
+pub parts_stop : (index : ℕ) (tag : Tag) (bytes : List ℕ) (size : ℕ × List ℕ) (why : PoolRefusal) → size_at tag bytes ≡ Ok size → slice_at size.0 size.1 ≡ Err why → ShowsGood (λ x. x) (Err why) (body_at index tag bytes)
+unfolding body_at
+parts_stop index tag bytes size why at_size e = missed_shows why _ (slice_fails Truncated size.0 size.1 why e).1 (then_ok _ _ at_size (then_err _ e))

@@ -7,9 +7,9 @@ use Rattle.std.proofs.lemmas.List.{drop_at, drop-drop}
 use Rattle.class_pool.specs.declared.refusal.PoolRefusal.{PoolRefusal}
 use Rattle.class_pool.specs.declared.refusal.PoolRefusal.TheVariants.{Truncated, BadTag, BadIndex, BadUtf8, Memory}
 use Rattle.class_pool.specs.Pool.{Slots, is_linked, FitsEntry, slot_bytes, AreSpaced, EachEntry, pool_bytes, IsPool, IsPoolAt}
-use Rattle.class_pool.specs.PoolRefused.{IsEntryRefused, IsRefusedEntry, IsFirstUnlinked, HasNoCount, IsRefused, Gives}
-use Rattle.class_pool.specs.PoolReading.{u2_at, slots_at, first_unlinked, checked, pool_at, pool_from}
-use Rattle.byte_read.proofs.Steps.{u2, IsBytes, IsBytes-drop, bind_then, bind_fails, ok_is, same_why, no_failure, then_ok, then_err, Takes, joined, u2_takes, number_fails, number_short, u2_again}
+use Rattle.class_pool.specs.PoolRefused.{IsCountRefused, IsEntryRefused, IsRefusedEntry, IsFirstUnlinked, HasNoCount, IsRefused, Gives}
+use Rattle.class_pool.specs.PoolReading.{u2_at, count_at, slots_at, first_unlinked, checked, pool_at, pool_from}
+use Rattle.byte_read.proofs.Steps.{roomy, u2, IsBytes, IsBytes-drop, bind_then, bind_fails, ok_is, same_why, no_failure, then_ok, then_err, Takes, joined, u2_takes, number_fails, number_short, u2_again}
 use Rattle.class_pool.proofs.Steps.{err_says}
 use Rattle.class_pool.proofs.Linked.{Found, none_says, none_again, some_says, some_again}
 use Rattle.class_pool.proofs.SlotLists.{HasSecond, slots_again, slots_refused, slots_taken, FailsSlots, slots_fail}
@@ -281,3 +281,19 @@ is_refused bytes at (Err why) fits e =
 
 pub is_answered : (bytes : List ℕ) (at : ℕ) (result : Result (Slots × ℕ) PoolRefusal) → Gives result (pool_from bytes at) → (why : PoolRefusal) → IsRefused (drop at bytes) why → Gives result (Err why)
 is_answered bytes at result e why r = subst (Gives result) (from_refused bytes at why r) e
+
+-- a count that is refused is refused by reading it
+pub is_at_once : (bytes : List ℕ) (why : PoolRefusal) → IsCountRefused bytes why → count_at bytes ≡ Err why
+unfolding count_at
+is_at_once bytes Truncated short = then_err _ (number_short Truncated 2 bytes short)
+is_at_once bytes (BadIndex index) (is, none) =
+    ap count_at none.1 ∙ then_ok _ _ (u2_again Truncated 0 none.0 (omega arith)) (rw is refl)
+is_at_once bytes (BadTag index) r = absurd r
+is_at_once bytes (BadUtf8 index) r = absurd r
+is_at_once bytes Memory r = absurd r
+
+-- a count that is read is not 0
+pub count_read : (bytes : List ℕ) (x : ℕ × List ℕ) → count_at bytes ≡ Ok x → u2_at bytes ≡ Ok x
+unfolding count_at
+count_read bytes x e =
+    bind_then (u2_at bytes) _ x e (λ y at_y e_x. at_y ∙ ap (λ (z : ℕ × List ℕ). Ok z) (roomy (eqb y.0 0) y x (BadIndex 0) e_x).1)

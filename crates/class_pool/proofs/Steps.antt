@@ -1,8 +1,9 @@
 -- What a reading function answered, against what reading gives.
-use Rattle.std.proofs.Common.{◌≡◌, ◌⊎◌, Result, Err, refl, inl, inr}
+use Rattle.std.proofs.Common.{◌≡◌, ◌⊎◌, Result, Ok, Err, refl, sym, ap, subst, ◌∙◌, inl, inr}
+use Rattle.byte_read.proofs.Steps.{failed}
 use Rattle.class_pool.specs.declared.refusal.PoolRefusal.{PoolRefusal}
 use Rattle.class_pool.specs.declared.refusal.PoolRefusal.TheVariants.{Truncated, BadTag, BadIndex, BadUtf8, Memory}
-use Rattle.class_pool.specs.PoolRefused.{Shows}
+use Rattle.class_pool.specs.PoolRefused.{Shows, ShowsGood}
 
 -- a refusal that is answered is that of reading, or want of memory
 pub err_says : {X Y : Type 0} (view : X → Y) (why : PoolRefusal) (read : Result Y PoolRefusal) → Shows view (Err why) read → (why ≡ Memory) ⊎ (read ≡ Err why)
@@ -11,6 +12,20 @@ err_says view Truncated read e = inr e
 err_says view (BadTag index) read e = inr e
 err_says view (BadIndex index) read e = inr e
 err_says view (BadUtf8 index) read e = inr e
+
+-- an answer for which memory was asked only where it is good is one for which it was asked
+pub good_shows : {Y : Type 0} (why : PoolRefusal) (read : Result Y PoolRefusal) → ShowsGood (λ x. x) (Err why) read → Shows (λ x. x) (Err why) read
+good_shows Memory read e = tt
+good_shows Truncated read e = e
+good_shows (BadTag index) read e = e
+good_shows (BadIndex index) read e = e
+good_shows (BadUtf8 index) read e = e
+
+-- bytes that are missed are no want of memory
+pub missed_shows : {Y : Type 0} (why : PoolRefusal) (read : Result Y PoolRefusal) → why ≡ Truncated → read ≡ Err why → ShowsGood (λ x. x) (Err why) read
+missed_shows {Y} why read is e =
+    let cut : read ≡ Err Truncated = e ∙ ap (λ (w : PoolRefusal). failed {A = Y} w) is in
+    subst (λ (w : PoolRefusal). ShowsGood (λ (x : Y). x) (Err w) read) (sym is) cut
 
 pub err_shows : {X Y : Type 0} (view : X → Y) (why : PoolRefusal) (read : Result Y PoolRefusal) → (why ≡ Memory) ⊎ (read ≡ Err why) → Shows view (Err why) read
 err_shows view Memory read e = tt

@@ -192,6 +192,12 @@ first_unlinked pool index (slot ∷ slots) = if is_slot_linked pool slot then fi
 
 -- ---- the pool
 
+-- the count, which is not 0
+unfoldable pub count_at : List ℕ → Result (ℕ × List ℕ) PoolRefusal
+count_at bytes = do
+  count ← u2_at bytes
+  if count.0 == 0 then Err (BadIndex 0) else Ok count
+
 abbrev pub checked : Slots × List ℕ → Option ℕ → Result (Slots × List ℕ) PoolRefusal
 checked slots None = Ok slots
 checked slots (Some index) = Err (BadIndex index)

@@ -1,7 +1,8 @@
 //! An entry of the constant pool (JVMS 4.4) is a tag and the parts after it.
 
 ghost use Rattle.std.specs.Prelude.{◌≡◌, ◌≤◌, length};
-ghost use Rattle.class_pool.specs.PoolRefused.{Shows};
+ghost use Rattle.byte_read.specs.Reading.{Answers};
+ghost use Rattle.class_pool.specs.PoolRefused.{ShowsGood};
 ghost use Rattle.class_pool.specs.PoolReading.{size_at, parts_size, text_of, pair_of, entry_of, body_at, tagged_at, tag_of_byte, entry_at};
 
 use crate::pool::{Const, Text};
@@ -16,7 +17,7 @@ use std::alloc::Global;
 /// How many bytes the parts of an entry have, and the bytes after that number.
 #[tactic(auto, unfolding(crate::specs::PoolReading::size_at))]
 fn size_at(tag: Tag, bytes: &[u8]) -> Result<(usize, &[u8]), PoolRefusal>
-    ensures { Shows (λ x. (x.0, x.1.now)) result (size_at tag bytes.now) }
+    ensures { Answers (λ x. (x.0, x.1.now)) result (size_at tag bytes.now) }
 {
     match tag {
         Tag::Utf8 => {
@@ -29,7 +30,7 @@ fn size_at(tag: Tag, bytes: &[u8]) -> Result<(usize, &[u8]), PoolRefusal>
 
 /// The text of these bytes, at an index.
 fn text_of(alloc: Global, index: u16, bytes: &[u8]) -> Result<Text, PoolRefusal>
-    ensures { Shows (λ text. text) result (text_of index bytes.now) }
+    ensures { ShowsGood (λ text. text) result (text_of index bytes.now) }
 {
     if !is_modified_utf8(bytes) {
         return Err(PoolRefusal::BadUtf8 { index });
@@ -49,7 +50,7 @@ fn pair_of(parts: &[u8]) -> (u16, u16)
 #[tactic(auto, unfolding(crate::specs::PoolReading::entry_of))]
 fn entry_of(alloc: Global, index: u16, tag: Tag, parts: &[u8]) -> Result<Const, PoolRefusal>
     requires { parts_size tag ≤ length parts.now }
-    ensures { Shows (λ entry. entry) result (entry_of index tag parts.now) }
+    ensures { ShowsGood (λ entry. entry) result (entry_of index tag parts.now) }
 {
     let entry = match tag {
         Tag::Utf8 => Const::Utf8(text_of(alloc, index, parts)?),
@@ -88,7 +89,7 @@ fn entry_of(alloc: Global, index: u16, tag: Tag, parts: &[u8]) -> Result<Const, 
 /// What follows the tag of the entry at an index.
 #[tactic(auto, unfolding(crate::specs::PoolReading::body_at))]
 fn body_at(alloc: Global, index: u16, tag: Tag, bytes: &[u8]) -> Result<(Const, &[u8]), PoolRefusal>
-    ensures { Shows (λ x. (x.0, x.1.now)) result (body_at index tag bytes.now) }
+    ensures { ShowsGood (λ x. (x.0, x.1.now)) result (body_at index tag bytes.now) }
 {
     let (size, rest) = size_at(tag, bytes)?;
     let (parts, rest) = slice_at(PoolRefusal::Truncated, size, rest)?;
@@ -104,7 +105,7 @@ pub(crate) fn entry_at(
     room: u16,
     bytes: &[u8],
 ) -> Result<(Const, &[u8]), PoolRefusal>
-    ensures { Shows (λ x. (x.0, x.1.now)) result (entry_at index room bytes.now) }
+    ensures { ShowsGood (λ x. (x.0, x.1.now)) result (entry_at index room bytes.now) }
 {
     match bytes {
         [] => Err(PoolRefusal::Truncated),
