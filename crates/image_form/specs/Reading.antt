@@ -285,11 +285,21 @@ whole_of bytes = do
   image ← matched (first_unmatched part.0.selectors part.0.methods 0 part.0.types) part
   if length image.1 == 0 then Ok image.0 else Err TrailingBytes
 
+-- the version, which is 1
+unfoldable pub version_at : List ℕ → Result (ℕ × List ℕ) FormRefusal
+version_at bytes = do
+  version ← u2_at bytes
+  if version.0 == 1 then Ok version else Err (FormVersion version.0)
+
 -- the image with these bytes after the first four
 unfoldable pub versioned : List ℕ → Result Image FormRefusal
 versioned bytes = do
   version ← u2_at bytes
   if version.0 == 1 then whole_of version.1 else Err (FormVersion version.0)
+
+-- the magic and the version
+unfoldable pub start_of : List ℕ → Result (ℕ × List ℕ) FormRefusal
+start_of bytes = if bytes_eq (take 4 bytes) magic then version_at (drop 4 bytes) else Err NotInfusion
 
 -- the image, or the first rule that the bytes fail
 unfoldable pub image_of : List ℕ → Result Image FormRefusal

@@ -1,5 +1,6 @@
 //! The bytes and numbers that an infusion is made of.
 
+ghost use Rattle.byte_read.specs.Reading.{Answers};
 ghost use Rattle.image_form.specs.Refused.{Shows};
 ghost use Rattle.image_form.specs.Reading.{u1_at, u2_at, slice_at, name_at};
 
@@ -9,14 +10,14 @@ use std::alloc::Global;
 
 /// A number of one byte, and the bytes after it.
 pub(crate) fn u1_at(bytes: &[u8]) -> Result<(u8, &[u8]), FormRefusal>
-    ensures { Shows (λ x. (x.0, x.1.now)) result (u1_at bytes.now) }
+    ensures { Answers (λ x. (x.0, x.1.now)) result (u1_at bytes.now) }
 {
     byte_read::u1_at(FormRefusal::Truncated, bytes)
 }
 
 /// A number of two bytes, and the bytes after it.
 pub(crate) fn u2_at(bytes: &[u8]) -> Result<(u16, &[u8]), FormRefusal>
-    ensures { Shows (λ x. (x.0, x.1.now)) result (u2_at bytes.now) }
+    ensures { Answers (λ x. (x.0, x.1.now)) result (u2_at bytes.now) }
 {
     byte_read::u2_at(FormRefusal::Truncated, bytes)
 }
