@@ -1,10 +1,8 @@
 -- Each part of an infusion is read by the prefix: what is read, and a rule that fails, stand whatever
 -- follows.
-use Rattle.std.proofs.Common.{◌≡◌, ◌⊎◌, ℕ, zero, suc, ◌+◌, ◌-◌, ◌≤◌, Bool, true, false, ◌&&◌, ◌||◌, not, cond, ltb, leb, eqb, List, [], ◌∷◌, ◌++◌, length, take, drop, Option, Some, None, Result, Ok, Err, refl, arith, inl, inr, length-append}
+use Rattle.std.proofs.Common.{ℕ, ◌+◌, ◌-◌, ◌&&◌, ◌||◌, not, cond, leb, eqb, List, [], length, Option, Some, None, Err}
 use Rattle.std.specs.Prelude.{slice_get}
 use Rattle.std.specs.List.{list_any}
-use Rattle.std.proofs.lemmas.Bool.{ltb-false, le-ltb}
-use Rattle.std.proofs.lemmas.List.{take-append-le, drop-append-le}
 use Rattle.image_instr.specs.declared.signature.Sig.{Sig}
 use Rattle.image_form.specs.declared.record.Image.{Image}
 use Rattle.image_form.specs.declared.record.TypeEntry.{TypeEntry}
@@ -17,8 +15,8 @@ use Rattle.image_form.specs.declared.refusal.FormRefusal.TheVariants.{FormVersio
 use Rattle.image_form.specs.Library.{signature, names_type, names_class, names_parent, names_interface, refs_of, nums_of}
 use Rattle.image_form.specs.Grammar.{is_above, is_ref_array, is_num_array, is_kind, most_types, most_methods}
 use Rattle.byte_read.specs.Reading.{◌>>=◌}
-use Rattle.image_form.specs.Reading.{u1_at, u2_at, slice_at, tested, items_at, in_types, in_selectors, in_methods, in_statics, in_main, interface_at, interfaces_at, row_at, rows_at, name_at, refs_at, nums_at, class_at, element_at, kind_at, tagged_at, type_at, types_at, signature_at, selector_at, selectors_at, handler_at, handlers_at, code_at, frame_at, method_at, methods_at, static_refs_at, cell_at, static_cells_at, names_main, main_at, parts_at, matched}
-use Rattle.byte_read.proofs.Steady.{Persists, IsSteady as IsSteadyWith, done, failing, either, first, last, tested as tested_steady, u1_steady, number_steady, slice_steady, steps_steady, one_more_steady}
+use Rattle.image_form.specs.Reading.{u2_at, tested, items_at, in_types, in_selectors, in_methods, in_statics, in_main, interface_at, interfaces_at, row_at, rows_at, name_at, refs_at, nums_at, class_at, element_at, kind_at, tagged_at, type_at, types_at, signature_at, selector_at, selectors_at, handler_at, handlers_at, code_at, frame_at, method_at, methods_at, static_refs_at, cell_at, static_cells_at, names_main, main_at, parts_at, matched}
+use Rattle.byte_read.proofs.Steady.{IsSteady as IsSteadyWith, done, failing, either, first, last, tested as tested_steady, u1_steady, number_steady, slice_steady, steps_steady, one_more_steady}
 use Rattle.image_form.proofs.Readers.{Reader}
 use Rattle.image_form.proofs.ImageParts.{unmatched_in, match_rows}
 

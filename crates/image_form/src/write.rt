@@ -8,8 +8,8 @@ ghost use Rattle.image_form.specs.declared.record.TypeEntry.TheVariants.{Class, 
 ghost use Rattle.image_form.specs.Format.{magic, counted, row_bytes, class_bytes, type_bytes, sig_bytes, handler_bytes, method_bytes, encoding};
 ghost use Rattle.image_form.specs.Grammar.{EachAfter, Each, IsClass, IsType, IsMethod, IsImage};
 
-use byte_read::u2_bytes;
 use crate::record::{ClassEntry, DispatchRow, HandlerEntry, Image, Method, TypeEntry};
+use byte_read::u2_bytes;
 use image_instr::Sig;
 use std::alloc::{AllocError, Global};
 
