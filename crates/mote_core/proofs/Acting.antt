@@ -1,10 +1,10 @@
 -- Turns that are done over a console: what follows of them in the split machine.
-use Rattle.std.proofs.Common.{◌≡◌, ℕ, ℤ, ◌+◌, ◌<◌, ◌≤◌, Bool, true, false, List, [], ◌∷◌, ◌++◌, Option, Some, Result, Ok, Err, refl, sym, ap, subst, ◌∙◌, arith, rules, ◌⊎◌, inl, inr}
+use Rattle.std.proofs.Common.{◌≡◌, ℕ, ℤ, ◌+◌, ◌<◌, ◌≤◌, true, false, List, [], ◌∷◌, Option, Result, Ok, Err, refl, sym, ap, subst, ◌∙◌, arith, rules, inl, inr}
 use Rattle.std.specs.Prelude.{nat_le, nat_lt, option_map}
 use Rattle.dialogue.specs.Dialogue.{Item, Get, putting, gets, gets-putting}
 use Rattle.dialogue.specs.Limits.{Limits}
-use Rattle.dialogue.specs.Natives.{next_byte, after_byte}
-use Rattle.dialogue.specs.Run.{Step, Goes, Ends, Stuck}
+use Rattle.dialogue.specs.Natives.{next_byte}
+use Rattle.dialogue.specs.Run.{Step, Goes, Ends}
 use Rattle.cell_num.specs.Cells.{low_cell, high_cell}
 use Rattle.host_face.specs.Talk.{Talked, BrokeOff}
 use Rattle.host_face.proofs.TalkLemmas.{Talked-nothing, same-without}
@@ -12,12 +12,12 @@ use Rattle.mote_model.specs.declared.ending.Ending.{Ending}
 use Rattle.mote_model.specs.declared.ending.Ending.TheVariants.{Done, Uncaught, Spent, ConsoleFault}
 use Rattle.mote_model.specs.State.{Frame, State}
 use Rattle.mote_model.specs.Numbers.{with_number}
-use Rattle.mote_model.specs.Machine.{with_frame, at_cells, ticked, within_budget, jumps}
+use Rattle.mote_model.specs.Machine.{with_frame, at_cells, ticked, within_budget}
 use Rattle.mote_core.specs.declared.turn.Turn.{Turn}
-use Rattle.mote_core.specs.declared.turn.Turn.TheVariants.{Next, Jump, Throw, Return, Write, Read, Print}
-use Rattle.mote_core.specs.Turns.{AreCells, meaning, with_top}
+use Rattle.mote_core.specs.declared.turn.Turn.TheVariants.{Next, Jump, Throw, Return, Read}
+use Rattle.mote_core.specs.Turns.{meaning, with_top}
 use Rattle.mote_core.specs.Good.{IsStepEnding}
-use Rattle.mote_core.specs.Acts.{Place, IsPlaceOf, Tells, TellsNow, IsJump, IsRead, with_input, Went, Stopped, Shows, Acted, Acts}
+use Rattle.mote_core.specs.Acts.{Place, IsPlaceOf, Tells, IsJump, IsRead, with_input, Shows, Acted, Acts}
 use Rattle.mote_core.proofs.Tops.{pushed}
 use Rattle.mote_core.proofs.Puts.{read-left}
 

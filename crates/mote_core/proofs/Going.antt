@@ -1,12 +1,11 @@
 -- A run over a console, step by step: what it has said, and the state of the split machine that it is in.
-use Rattle.std.proofs.Common.{◌≡◌, ℕ, zero, suc, ◌+◌, ◌-◌, ◌*◌, ◌<◌, ◌≤◌, Bool, true, false, cond, List, [], ◌∷◌, ◌++◌, length, drop, Option, Some, None, Result, Ok, Err, refl, sym, ap, subst, ◌∙◌, arith, rules}
+use Rattle.std.proofs.Common.{◌≡◌, ℕ, zero, suc, ◌+◌, ◌-◌, ◌*◌, ◌<◌, ◌≤◌, true, false, List, [], ◌∷◌, ◌++◌, length, drop, Option, Some, None, Result, Ok, Err, refl, sym, ap, subst, ◌∙◌, arith, rules}
 use Rattle.std.specs.Prelude.{IfSome, IsSome, nat_le, option_map, replicate}
 use Rattle.std.proofs.lemmas.List.{append-nil}
 use Rattle.std.proofs.lemmas.Option.{none-some, some_pair_parts}
 use Rattle.dialogue.specs.Dialogue.{Item, gets}
 use Rattle.dialogue.specs.Limits.{Limits}
-use Rattle.dialogue.specs.Outcome.{Outcome}
-use Rattle.dialogue.specs.Run.{Step, Goes, Ends, Stuck, Progress, Running, Over, advance, after_step, run_from}
+use Rattle.dialogue.specs.Run.{Step, Goes, Ends, Stuck, Running, Over, advance, after_step, run_from}
 use Rattle.dialogue.proofs.Simulation.{run_from-more}
 use Rattle.host_face.specs.Talk.{Talked, BrokeOff, without_first}
 use Rattle.host_face.proofs.TalkLemmas.{Talked-nothing, Talked-then, BrokeOff-then, BrokeOff-prefix, without_first-none, without_gets}
@@ -17,17 +16,16 @@ use Rattle.image_form.specs.declared.record.Method.{Method}
 use Rattle.image_form.specs.Grammar.{IsImage}
 use Rattle.image_check.specs.Checked.{IsChecked, IsBuilt}
 use Rattle.mote_model.specs.declared.ending.Ending.{Ending}
-use Rattle.mote_model.specs.declared.ending.Ending.TheVariants.{Done, Uncaught, Spent, HeapWanted, StackWanted, ConsoleFault, Misfit}
+use Rattle.mote_model.specs.declared.ending.Ending.TheVariants.{Done, Uncaught, Spent, StackWanted}
 use Rattle.mote_model.specs.State.{Frame, State}
 use Rattle.mote_model.specs.Machine.{method_of, step_insn, step_found, step_code, step_frames, code_of, machine, start_of, start_main, start_with, first_frame, frame_cells}
 use Rattle.mote_core.specs.declared.turn.Turn.{Turn}
 use Rattle.mote_core.specs.Ready.{Ready, limits_of}
-use Rattle.mote_core.specs.Good.{IsGood, IsNearer, IsGoodStep, left_of, IsStepEnding}
-use Rattle.mote_core.specs.Ran.{MayEnd, Ended, Failed, Ran, IsEndingSoFar}
-use Rattle.mote_core.specs.Turns.{AreCells, CanRun, IsTurn, Runs, meaning}
+use Rattle.mote_core.specs.Good.{IsGood, IsGoodStep, left_of, IsStepEnding}
+use Rattle.mote_core.specs.Ran.{Ended, Failed, Ran, IsEndingSoFar}
+use Rattle.mote_core.specs.Turns.{AreCells, CanRun, IsTurn, Runs}
 use Rattle.mote_core.specs.Acts.{Place, IsPlaceOf, Tells, TellsNow, with_input, place, Shows, Acts}
 use Rattle.mote_core.proofs.Progress.{holds_here, step_good, start_good, ends_from}
-use Rattle.mote_core.proofs.Sent.{Stands}
 use Rattle.mote_core.proofs.CanRun.{can_run}
 
 -- the machine has come so far

@@ -1,15 +1,15 @@
 -- Showing a list of bytes, byte by byte, and what a console reads.
 use Rattle.std.proofs.Common.{◌≡◌, ℕ, ℤ, pos, negsuc, ◌+◌, ◌%◌, ◌<◌, ◌≤◌, List, [], ◌∷◌, ◌++◌, length, take, drop, get_or, Option, Some, None, refl, ap, sym, ◌∙◌, add-one, take-append-drop, arith}
-use Rattle.std.specs.Prelude.{IsNone, IsSome, Bool, true, false}
+use Rattle.std.specs.Prelude.{IsNone, IsSome, true, false}
 use Rattle.std.proofs.lemmas.Bool.{false≢true}
-use Rattle.std.proofs.lemmas.List.{take_more, map_push, map-append, append-nil}
+use Rattle.std.proofs.lemmas.List.{take_more, map_push, map-append}
 use Rattle.std.proofs.Math.Seq.{drop-cons}
 use Rattle.dialogue.specs.Dialogue.{Get, Put, putting}
 use Rattle.dialogue.specs.Natives.{after_byte}
 use Rattle.host_face.specs.Faults.{Rose}
 use Rattle.host_face.specs.Console.{Takes}
 use Rattle.host_face.specs.Talk.{Talked, BrokeOff, without_first}
-use Rattle.host_face.proofs.TalkLemmas.{with_bytes-nil, Talked-nothing}
+use Rattle.host_face.proofs.TalkLemmas.{with_bytes-nil}
 use Rattle.mote_core.specs.Acts.{IsRead}
 
 mod_below : (n k : ℕ) → n < k → n % k ≡ n

@@ -11,7 +11,7 @@ use Rattle.image_check.specs.Visits.{depth, IsSent}
 use Rattle.mote_model.specs.declared.ending.Ending.{Ending}
 use Rattle.mote_model.specs.declared.ending.Ending.TheVariants.{Done, Uncaught, Spent}
 use Rattle.mote_model.specs.State.{Frame, State}
-use Rattle.mote_model.specs.Machine.{method_of, step_frames, LimitedSo}
+use Rattle.mote_model.specs.Machine.{method_of, LimitedSo}
 
 abbrev pub IsCell : ℕ → Type 0
 IsCell cell = cell < 2 ^ 16
