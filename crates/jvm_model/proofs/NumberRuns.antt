@@ -15,7 +15,7 @@ use Rattle.jvm_model.specs.Program.{Family, Placed, Program}
 use Rattle.jvm_model.specs.Body.{Body, placed_in}
 use Rattle.jvm_model.specs.ProgramOf.{first_class, program_of}
 use Rattle.jvm_model.specs.NumberForm.{HasNumberForm, HasNumberMain}
-use Rattle.jvm_model.specs.Accepted.{IsNumberFile}
+use Rattle.jvm_model.specs.Linked.{IsNumberFile}
 use Rattle.jvm_model.specs.Machine.{Ending, StackWanted, step, step_frames, step_placed, machine, start_of, LimitedSo}
 use Rattle.jvm_model.proofs.CodeBody.{IsCodeBody, code-body, family-there, locals-there}
 use Rattle.jvm_model.proofs.Reading.{IsRead, read-from_start, read-placed}
