@@ -17,7 +17,7 @@ use Rattle.jvm_model.specs.Machine as typed
 use Rattle.jvm_model.specs.Body.{Body, placed_in}
 use Rattle.jvm_model.specs.NumberForm.{HasNumberMain, is_of_form, reads, writes, IsBelow}
 use Rattle.jvm_model.specs.ImageOf.{image_of}
-use Rattle.jvm_model.specs.Accepted.{IsAccepted}
+use Rattle.jvm_model.proofs.NumberSets.{IsNumberSet}
 use Rattle.mote_model.specs.State as split_state
 use Rattle.mote_model.specs.Machine as split
 use Rattle.infuse_link.specs.RunsAlike.{SameEnding}
@@ -38,7 +38,7 @@ main_family file code body main pc =
     ap (option_and_then (family_in file.pool pc)) (main_code file code body main)
     ∙ ap (option_and_then (λ (b : Body). placed_in b (length code.code) pc)) main.is_body
 
-module _ (files : List (List ℕ)) (file : ClassFile) (code : CodeAttr) (body : Body) (accepted : IsAccepted files file code body) where
+module _ (files : List (List ℕ)) (file : ClassFile) (code : CodeAttr) (body : Body) (accepted : IsNumberSet files file code body) where
   main : HasNumberMain file code body
   main = accepted.number_file.main
 

@@ -4,6 +4,8 @@ use Rattle.std.specs.Prelude.{nat_le, slice_get}
 use Rattle.std.proofs.lemmas.Bool.{le-ltb}
 use Rattle.std.proofs.lemmas.List.{length-replicate}
 use Rattle.dialogue.specs.Limits.{Limits}
+use Rattle.dialogue.specs.Outcome.{Outcome}
+use Rattle.dialogue.specs.Simulation.{SameOutcome}
 use Rattle.dialogue.specs.Run.{Progress, Running, Over}
 use Rattle.dialogue.proofs.Simulation.{AsFar, ends_as}
 use Rattle.class_file.specs.declared.record.ClassFile.{ClassFile}
@@ -16,8 +18,10 @@ use Rattle.jvm_model.specs.Body.{Body}
 use Rattle.jvm_model.specs.FrameCells.{cells_below, slot_of, frame_cells}
 use Rattle.jvm_model.specs.Expansion.{offset_of, size_of}
 use Rattle.jvm_model.specs.ImageOf.{image_of}
-use Rattle.jvm_model.specs.Accepted.{IsAccepted}
-use Rattle.jvm_model.proofs.NumberRuns.{number_code_ends}
+use Rattle.jvm_model.proofs.NumberSets.{IsNumberSet, number_set}
+use Rattle.jvm_model.specs.Linked.{Linked}
+use Rattle.jvm_model.specs.Verdict.{Accepted}
+use Rattle.jvm_model.proofs.SetRuns.{runs_limited, limited_again}
 use Rattle.mote_model.specs.State as split_state
 use Rattle.mote_model.specs.declared.ending.Ending as split_ending
 use Rattle.mote_model.specs.declared.ending.Ending.TheVariants as endings
@@ -39,7 +43,7 @@ none_set zero local value e = absurd cc
 none_set (suc count) zero value e = absurd cc
 none_set (suc count) (suc local) value e = none_set count local value e
 
-module _ (files : List (List ℕ)) (file : ClassFile) (code : CodeAttr) (body : Body) (accepted : IsAccepted files file code body) (limits : Limits) (input : List ℕ) where
+module _ (files : List (List ℕ)) (file : ClassFile) (code : CodeAttr) (body : Body) (accepted : IsNumberSet files file code body) (limits : Limits) (input : List ℕ) where
   abbrev first : Point
   first = record { pc = 0; locals = replicate code.max_locals None; numbers = []; cells = replicate (cells_below body code.max_locals) 0; input = input; ticks = 0 }
 
@@ -76,9 +80,14 @@ module _ (files : List (List ℕ)) (file : ClassFile) (code : CodeAttr) (body : 
   far : Far (split.start_of (image_of file code body) limits input) (typed.start_within (program_of file) (frame_cells code.max_locals body) limits input)
   far = start_far (nat_le (frame_cells code.max_locals body) limits.stack)
 
-  pub runs_alike : RunsAlike (program_of file) (frame_cells code.max_locals body) (image_of file code body) limits input
-  runs_alike =
-      let ended = number_code_ends accepted.bytes file code body accepted.number_file (frame_cells code.max_locals body) limits input in
-      let other = ends_as (typed.machine (program_of file) limits.ticks) (split.machine (image_of file code body) limits) (SameEnding (image_of file code body)) (Belong file code body) (follows files file code body accepted limits)
-      (split.start_of (image_of file code body) limits input) (typed.start_within (program_of file) (frame_cells code.max_locals body) limits input) far ended.0 ended.1 in
-      record { outcome = ended.0; ends = ended.1; other = other.0; ends_other = other.1; same = other.2 }
+  pub image_runs : (outcome : Outcome typed.Ending) → typed.LimitedSo (program_of file) (frame_cells code.max_locals body) limits input outcome → (other : Outcome split_ending.Ending) × split.LimitedSo (image_of file code body) limits input other × SameOutcome (SameEnding (image_of file code body)) outcome other
+  image_runs outcome ends =
+      ends_as (typed.machine (program_of file) limits.ticks) (split.machine (image_of file code body) limits) (SameEnding (image_of file code body)) (Belong file code body) (follows files file code body accepted limits)
+      (split.start_of (image_of file code body) limits input) (typed.start_within (program_of file) (frame_cells code.max_locals body) limits input) far outcome ends
+
+pub runs_alike : (files : List (List ℕ)) → Accepted files → (linked : Linked files) (limits : Limits) (input : List ℕ) → RunsAlike files (image_of linked.file linked.code linked.body) limits input
+runs_alike files accepted linked limits input =
+    let run = runs_limited files accepted limits input in
+    let ends = limited_again files run.1.linked linked limits input run.0 run.1.ends in
+    let other = image_runs files linked.file linked.code linked.body (number_set files accepted linked) limits input run.0 ends in
+    record { outcome = run.0; ends = run.1; other = other.0; ends_other = other.1; same = other.2 }

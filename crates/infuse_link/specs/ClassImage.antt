@@ -12,7 +12,9 @@ use Rattle.jvm_model.specs.ProgramOf.{body_of}
 use Rattle.jvm_model.specs.NumberForm.{HasNumberForm, HasNumberMain}
 use Rattle.jvm_model.specs.FrameCells.{frame_cells}
 use Rattle.jvm_model.specs.ImageOf.{code_for, image_of}
-use Rattle.jvm_model.specs.Accepted.{IsRefused, most_frame_cells, most_code_bytes}
+use Rattle.jvm_model.specs.Verdict.{IsRefused}
+use Rattle.jvm_model.specs.FrameSize.{most_frame_cells}
+use Rattle.jvm_model.specs.CodeLength.{most_code_bytes}
 use Rattle.infuse_link.specs.declared.stop.Stop.{Stop}
 use Rattle.infuse_link.specs.declared.stop.Stop.TheVariants.{Unbuilt, FrameTooLarge, CodeTooLong, Memory}
 

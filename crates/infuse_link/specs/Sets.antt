@@ -11,7 +11,8 @@ use Rattle.jvm_model.specs.declared.refusal.Refusal.{Refusal}
 use Rattle.jvm_model.specs.declared.refusal.Cause.TheVariants as cause
 use Rattle.jvm_model.specs.Body.{Body}
 use Rattle.jvm_model.specs.NumberForm.{HasNumberMain}
-use Rattle.jvm_model.specs.Accepted.{is_plain_insn, NamesFirst, OutsideClass, refusal_of_main}
+use Rattle.jvm_model.specs.BuiltForm.{is_plain_insn, NamesFirst, OutsideClass}
+use Rattle.jvm_model.specs.Linked.{refusal_of_main}
 use Rattle.infuse_link.specs.declared.stop.Stop.{Stop}
 use Rattle.infuse_link.specs.declared.stop.Stop.TheVariants.{Unbuilt, FrameTooLarge, CodeTooLong, Memory}
 use Rattle.infuse_link.specs.ClassImage.{HasLargeMain, HasLongMain}

@@ -3,7 +3,7 @@ use Rattle.image_form.specs.declared.record.Image.{Image}
 use Rattle.image_form.specs.SmallForm.{small_class, small_method, small_image}
 use Rattle.jvm_model.specs.FrameCells.{frame_cells}
 use Rattle.jvm_model.specs.ImageOf.{code_for, object_id, name_of_class}
-use Rattle.jvm_model.specs.Accepted.{IsAccepted}
+use Rattle.jvm_model.proofs.NumberSets.{IsNumberSet}
 use Rattle.infuse_link.specs.NumberInsns.{body_meant}
 use Rattle.infuse_link.specs.Tests.{slot_in}
 use Rattle.infuse_link.specs.Offsets.{place_in}
@@ -53,7 +53,7 @@ emitted-requires c =
     let slot = slot_is code.max_locals body form.written_below c.in_ok-slots.slots e.cells e.length e.slots in
     let place = place_is (slot_in c.in_ok-slots.slots) c.in_ok-offsets.offsets body slot c.in_ok-offsets.ensures.places in
     let size : c.in_ok-offsets.offsets.bytes ≡ length (code_for body) = c.in_ok-offsets.ensures.bytes ∙ code_size (slot_in c.in_ok-slots.slots) body slot in
-    let accepted : IsAccepted (c.requires.file.bytes ∷ []) c.args.file.now code body =
+    let accepted : IsNumberSet (c.requires.file.bytes ∷ []) c.args.file.now code body =
     record {
       bytes = c.requires.file.bytes;
       files_are = refl;

@@ -7,9 +7,9 @@ use Rattle.jvm_model.specs.declared.refusal.Refusal.{Refusal}
 use Rattle.jvm_model.specs.Phases.{first_refusal, class_refusal}
 use Rattle.infuse_link.specs.ClassImage.{IsClassImage, RefusedOrMemory}
 use Rattle.infuse_link.specs.Sets.{IsRecord, IsOneClass, SetStopsFor, RefusesFor}
-use Rattle.infuse_link.proofs.ReadSets.{are_records, code_decides}
+use Rattle.infuse_link.proofs.ReadSets.{are_records, none_unread, scan_same}
 use Rattle.infuse_link.proofs.Verdicts.{set_infused, set_refused}
-use Rattle.infuse_link.proofs.infusing.infuse_set.Goals as goal
+use Rattle.infuse_link.proofs.infusing.infuse_sized.Goals as goal
 
 abbrev bytes_of : List (Vec ℕ Global) → List (List ℕ)
 bytes_of files = map (λ (v : Vec ℕ Global). v.items) files
@@ -27,7 +27,11 @@ returns-in_err-test_classes-clause-refused c =
     err_of c.from_residual-in_err-test_classes.result why (RefusedOrMemory files) c.from_residual-in_err-test_classes.ensures.1
     (elim c.in_err-test_classes.ensures.refused [
       | inl memory ↦ inl memory
-      | inr e ↦ inr (inl (code_decides files classes (Some why) c.in_ok-test_size.ensures.size c.in_ok-classes.ensures.read (ap (first_refusal class_refusal 0) (sym c.as_slice.ensures.value) ∙ e)))
+      | inr e ↦ inr
+          (inr (
+            c.requires,
+            inr (none_unread 0 files classes c.in_ok-classes.ensures.read, inl (scan_same class_refusal 0 files classes c.in_ok-classes.ensures.read ∙ ap (first_refusal class_refusal 0) (sym c.as_slice.ensures.value) ∙ e)),
+          ))
     ])
 
 pub infuse_classes-requires : goal.infuse_classes-requires
@@ -48,4 +52,4 @@ returns-clause-refused c =
     let fits = ap (first_refusal class_refusal 0) (sym c.as_slice.ensures.value) ∙ c.in_ok-test_classes.ensures.fits in
     let stops : SetStopsFor classes c.in-Err.why = subst (λ (cs : List ClassFile). SetStopsFor cs c.in-Err.why) c.as_slice-2.ensures.value c.in-Err.ensures.refused in
     let refuses = subst (λ (cs : List ClassFile). RefusesFor cs c.in-Err.why c.refusal_for.result) c.as_slice-in-Err.ensures.value c.refusal_for.ensures in
-    set_refused files classes c.in_ok-test_size.ensures.size c.in_ok-classes.ensures.read fits c.in-Err.why c.refusal_for.result stops refuses
+    set_refused files classes c.requires c.in_ok-classes.ensures.read fits c.in-Err.why c.refusal_for.result stops refuses
