@@ -1,4 +1,5 @@
 pub mod Ready
+pub mod MayGive
 pub mod Ran
 pub mod Good
 pub mod Turns

@@ -1,4 +1,4 @@
-use Rattle.std.proofs.Common.{◌≡◌, ◌+◌, ◌≤◌, ◌<◌, Some, sym, ap, subst, ◌∙◌, arith, rules}
+use Rattle.std.proofs.Common.{◌≡◌, ◌≤◌, ◌<◌, Some, ap, subst, ◌∙◌, arith}
 use Rattle.image_form.specs.Grammar.{IsImage}
 use Rattle.image_check.specs.Checked.{IsChecked, IsBuilt}
 use Rattle.mote_model.specs.Machine.{method_of, frame_cells}
@@ -74,7 +74,7 @@ returns-in-Err-clause-ran g c =
     let fits : main.body ≤ active.cells.room = omega (arith, c.if-from-need.false, c.from.ensures, c.from-need.ensures, stack_is, c.loop-ending.invariant.room) in
     (ends-at C.left C.shown C.noted C.faults C.room ready (subst IsImage image_is c.image.ensures.image) (subst IsChecked image_is c.image.ensures.checked) (subst IsBuilt image_is c.image.ensures.built)
     c.args.ticks c.args.console.now main is_main c.as_slice-code.result.now c.as_slice-code.ensures c.loop-ending.console _ c.loop-ending.invariant.going
-    c.act.new.console _ c.execute-turn.new.cells.items c.decode_known-insn.result.0 c.decode_known-insn.result.1 active.cells.room c.execute-turn.result
+    c.act.new.console c.execute-turn.new.cells.items c.decode_known-insn.result.0 c.decode_known-insn.result.1 active.cells.room c.execute-turn.result
     c.decode_known-insn.ensures.exact fits c.execute-turn.ensures.turn c.in-Err.ending c.in-Err.ensures.acts).0
 
 pub returns-in-Err-clause-so_far : goal.returns-in-Err-clause-so_far
@@ -89,7 +89,7 @@ returns-in-Err-clause-so_far g c =
     let fits : main.body ≤ active.cells.room = omega (arith, c.if-from-need.false, c.from.ensures, c.from-need.ensures, stack_is, c.loop-ending.invariant.room) in
     (ends-at C.left C.shown C.noted C.faults C.room ready (subst IsImage image_is c.image.ensures.image) (subst IsChecked image_is c.image.ensures.checked) (subst IsBuilt image_is c.image.ensures.built)
     c.args.ticks c.args.console.now main is_main c.as_slice-code.result.now c.as_slice-code.ensures c.loop-ending.console _ c.loop-ending.invariant.going
-    c.act.new.console _ c.execute-turn.new.cells.items c.decode_known-insn.result.0 c.decode_known-insn.result.1 active.cells.room c.execute-turn.result
+    c.act.new.console c.execute-turn.new.cells.items c.decode_known-insn.result.0 c.decode_known-insn.result.1 active.cells.room c.execute-turn.result
     c.decode_known-insn.ensures.exact fits c.execute-turn.ensures.turn c.in-Err.ending c.in-Err.ensures.acts).1
 
 pub loop-ending-smaller : goal.loop-ending-smaller
@@ -104,8 +104,8 @@ loop-ending-smaller g c =
     let fits : main.body ≤ active.cells.room = omega (arith, c.if-from-need.false, c.from.ensures, c.from-need.ensures, stack_is, c.loop-ending.invariant.room) in
     (on-at C.left C.shown C.noted C.faults C.room ready (subst IsImage image_is c.image.ensures.image) (subst IsChecked image_is c.image.ensures.checked) (subst IsBuilt image_is c.image.ensures.built)
     c.args.ticks c.args.console.now main is_main c.as_slice-code.result.now c.as_slice-code.ensures c.loop-ending.console _ c.loop-ending.invariant.going
-    c.act.new.console _ c.execute-turn.new.cells.items c.decode_known-insn.result.0 c.decode_known-insn.result.1 active.cells.room c.execute-turn.result
-    c.decode_known-insn.ensures.exact fits c.execute-turn.ensures.turn c.in_default.ensures.acts).1
+    c.act.new.console c.execute-turn.new.cells.items c.decode_known-insn.result.0 c.decode_known-insn.result.1 active.cells.room c.execute-turn.result
+    c.decode_known-insn.ensures.exact fits c.execute-turn.ensures.turn _ c.in_default.ensures.acts).1
 
 pub loop-ending-preserved : goal.loop-ending-preserved
 loop-ending-preserved g c =
@@ -119,6 +119,6 @@ loop-ending-preserved g c =
     let fits : main.body ≤ active.cells.room = omega (arith, c.if-from-need.false, c.from.ensures, c.from-need.ensures, stack_is, c.loop-ending.invariant.room) in
     let on = (on-at C.left C.shown C.noted C.faults C.room ready (subst IsImage image_is c.image.ensures.image) (subst IsChecked image_is c.image.ensures.checked) (subst IsBuilt image_is c.image.ensures.built)
     c.args.ticks c.args.console.now main is_main c.as_slice-code.result.now c.as_slice-code.ensures c.loop-ending.console _ c.loop-ending.invariant.going
-    c.act.new.console _ c.execute-turn.new.cells.items c.decode_known-insn.result.0 c.decode_known-insn.result.1 active.cells.room c.execute-turn.result
-    c.decode_known-insn.ensures.exact fits c.execute-turn.ensures.turn c.in_default.ensures.acts) in
+    c.act.new.console c.execute-turn.new.cells.items c.decode_known-insn.result.0 c.decode_known-insn.result.1 active.cells.room c.execute-turn.result
+    c.decode_known-insn.ensures.exact fits c.execute-turn.ensures.turn _ c.in_default.ensures.acts) in
     record { going = on.0; room = omega (arith, c.loop-ending.invariant.room, c.execute-turn.ensures.room, c.act.ensures.room) }
