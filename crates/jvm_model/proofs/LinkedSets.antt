@@ -1,5 +1,5 @@
 -- What belongs to a set is one, and it is decided whether a set has a form that is built.
-use Rattle.std.proofs.Common.{◌≡◌, inl, inr, ℕ, zero, suc, ◌<◌, ◌≤◌, List, [], ◌∷◌, get_or, Result, Ok, Err, refl, sym, ap, subst, ◌∙◌, arith}
+use Rattle.std.proofs.Common.{◌≡◌, inr, ℕ, zero, suc, ◌<◌, List, [], ◌∷◌, Result, Ok, Err, refl, sym, ap, subst, ◌∙◌, arith}
 use Rattle.std.specs.List.{AllByRecursion}
 use Rattle.std.proofs.lemmas.Option.{same_Some}
 use Rattle.class_pool.proofs.Steps.{IsBytes}
@@ -17,7 +17,7 @@ use Rattle.jvm_model.specs.NumberForm.{HasNumberMain}
 use Rattle.jvm_model.specs.Linked.{IsNumberFile, Linked}
 use Rattle.jvm_model.specs.Verdict.{AreBytes}
 use Rattle.jvm_model.proofs.Decisions.{Decided, decide_true, decide_both, decide_same}
-use Rattle.jvm_model.proofs.FormDecided.{IsNumberClass, decide_number_class}
+use Rattle.jvm_model.proofs.FormDecided.{decide_number_class}
 
 -- ---- one record, one code, one body
 

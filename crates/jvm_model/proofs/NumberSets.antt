@@ -1,5 +1,5 @@
 -- An accepted set, with what belongs to it, as the one file of the number form that it is.
-use Rattle.std.proofs.Common.{◌≡◌, ℕ, ◌≤◌, List, [], ◌∷◌, length, None, refl, sym, subst, ◌∙◌}
+use Rattle.std.proofs.Common.{◌≡◌, ℕ, ◌≤◌, List, [], ◌∷◌, length, None, refl, sym, subst}
 use Rattle.class_file.specs.declared.record.ClassFile.{ClassFile}
 use Rattle.class_file.specs.declared.record.CodeAttr.{CodeAttr}
 use Rattle.jvm_model.specs.Body.{Body}

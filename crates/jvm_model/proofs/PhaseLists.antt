@@ -2,16 +2,7 @@
 use Rattle.std.proofs.Common.{◌≡◌, inl, inr, ℕ, List, [], ◌∷◌, Option, Some, None, refl, sym, ◌∙◌}
 use Rattle.std.proofs.lemmas.Option.{none-some}
 use Rattle.jvm_model.specs.declared.refusal.Refusal.{Refusal}
-use Rattle.jvm_model.specs.Verdict.{Phase, FirstRefusal, AreBytes}
-
--- the phase has an answer for each set, and one at most
-pub record IsFunction (phase : Phase) : Type 0 where
-  pub total : (files : List (List ℕ)) → AreBytes files → (found : Option Refusal) × phase files found
-  pub unique : (files : List (List ℕ)) (a b : Option Refusal) → phase files a → phase files b → a ≡ b
-
-abbrev pub AreFunctions : List Phase → Type 0
-AreFunctions [] = Unit {0}
-AreFunctions (phase ∷ rest) = IsFunction phase × AreFunctions rest
+use Rattle.jvm_model.specs.Verdict.{Phase, FirstRefusal, AreBytes, IsFunction, AreFunctions}
 
 pub first_total : (phases : List Phase) → AreFunctions phases → (files : List (List ℕ)) → AreBytes files → (found : Option Refusal) × FirstRefusal phases files found
 first_total [] all files bytes = (None, refl)

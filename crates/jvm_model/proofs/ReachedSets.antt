@@ -1,9 +1,9 @@
 -- The least closed set of pcs is there, so it is decided which pcs are reached.
 use Rattle.std.proofs.Common.{◌≡◌, ℕ, ◌==◌, inl, inr, ◌⊎◌, Bool, true, false, ◌||◌, List, [], ◌∷◌, refl, sym, ap, ◌∙◌, arith}
-use Rattle.std.specs.List.{AllByRecursion, list_any}
+use Rattle.std.specs.List.{AllByRecursion}
 use Rattle.std.proofs.lemmas.Bool.{false≢true}
 use Rattle.std.proofs.lemmas.Bool.Decides.{nat_tests}
-use Rattle.jvm_model.specs.Reached.{Way, Ways, successors, IsClosed, IsReached}
+use Rattle.jvm_model.specs.Reached.{Ways, successors, IsClosed, IsReached}
 use Rattle.jvm_model.proofs.Decisions.{Decided}
 
 abbrev pub Pcs : Type 0

@@ -1,23 +1,22 @@
 -- Each phase has one answer for each set, and so the verdict is one.
-use Rattle.std.proofs.Common.{◌≡◌, inl, inr, ℕ, ◌<◌, ◌≤◌, List, [], ◌∷◌, length, Option, Some, None, refl, sym, ap, ◌∙◌, arith}
+use Rattle.std.proofs.Common.{◌≡◌, inl, inr, ℕ, ◌<◌, ◌≤◌, List, length, Option, Some, None, refl, sym, ap, ◌∙◌, arith}
 use Rattle.std.proofs.lemmas.Bool.{cases_lt}
 use Rattle.class_file.specs.declared.record.CodeAttr.{CodeAttr}
-use Rattle.jvm_model.specs.declared.refusal.Cause.{Cause}
 use Rattle.jvm_model.specs.declared.refusal.Cause.TheVariants.{FrameTooLarge, CodeTooLong}
 use Rattle.jvm_model.specs.declared.refusal.Refusal.{Refusal}
 use Rattle.jvm_model.specs.Body.{Body}
 use Rattle.jvm_model.specs.FrameCells.{frame_cells}
 use Rattle.jvm_model.specs.ImageOf.{code_for}
-use Rattle.jvm_model.specs.Phases.{SetSize, Reading, MethodCode, size_refusal, first_refusal, reading_refusal, code_refusal}
+use Rattle.jvm_model.specs.Phases.{saturated, size_refusal, first_refusal, reading_refusal, code_refusal}
 use Rattle.jvm_model.specs.Linked.{Linked, refusal_of_main}
 use Rattle.jvm_model.specs.BuiltForm.{BuiltForm, OutsideFile}
 use Rattle.jvm_model.specs.FrameSize.{FrameSize, most_frame_cells, cells_of}
 use Rattle.jvm_model.specs.CodeLength.{CodeLength, most_code_bytes, bytes_of}
-use Rattle.jvm_model.specs.Verdict.{Phase, phases, Verdict, Accepted, AreBytes}
+use Rattle.jvm_model.specs.Verdict.{phases, Verdict, Accepted, AreBytes, IsFunction, AreFunctions}
 use Rattle.jvm_model.proofs.Decisions.{Decided}
 use Rattle.jvm_model.proofs.FirstOutside.{one_named, outside_file_one, some_named}
 use Rattle.jvm_model.proofs.LinkedSets.{one_linked, decide_linked}
-use Rattle.jvm_model.proofs.PhaseLists.{IsFunction, AreFunctions, first_total, first_unique}
+use Rattle.jvm_model.proofs.PhaseLists.{first_total, first_unique}
 
 -- ---- the phases that are functions of the files
 
@@ -76,7 +75,7 @@ code_total : (files : List (List ℕ)) → Decided (Linked files) → (found : O
 code_total files (inr none) = (None, λ linked. absurd (none linked))
 code_total files (inl linked) =
     elim (cases_lt most_code_bytes (bytes_of linked)) [
-      | inl less ↦ (Some (refusal_of_main CodeTooLong (bytes_of linked)), record { linked = linked; exceeds = less; is = refl })
+      | inl less ↦ (Some (refusal_of_main CodeTooLong (saturated (bytes_of linked))), record { linked = linked; exceeds = less; is = refl })
       | inr most ↦ (None, λ other. omega (arith, same_size files linked other, most))
     ]
 
@@ -84,7 +83,7 @@ code_unique : (files : List (List ℕ)) (a b : Option Refusal) → CodeLength fi
 code_unique files None None p q = refl
 code_unique files None (Some b) p q = absurd (over_and_under most_code_bytes (bytes_of q.linked) (bytes_of q.linked) refl q.exceeds (p q.linked))
 code_unique files (Some a) None p q = absurd (over_and_under most_code_bytes (bytes_of p.linked) (bytes_of p.linked) refl p.exceeds (q p.linked))
-code_unique files (Some a) (Some b) p q = ap (λ (why : Refusal). Some why) (p.is ∙ ap (refusal_of_main CodeTooLong) (same_size files p.linked q.linked) ∙ sym q.is)
+code_unique files (Some a) (Some b) p q = ap (λ (why : Refusal). Some why) (p.is ∙ ap (λ bytes. refusal_of_main CodeTooLong (saturated bytes)) (same_size files p.linked q.linked) ∙ sym q.is)
 
 code_function : IsFunction CodeLength
 code_function = record { total = λ files bytes. code_total files (decide_linked files bytes); unique = code_unique }

@@ -3,6 +3,7 @@ use Rattle.std.specs.Prelude.{◌≡◌, ℕ, ◌<◌, ◌≤◌, List, length, 
 use Rattle.jvm_model.specs.declared.refusal.Cause.TheVariants.{CodeTooLong}
 use Rattle.jvm_model.specs.declared.refusal.Refusal.{Refusal}
 use Rattle.jvm_model.specs.ImageOf.{code_for}
+use Rattle.jvm_model.specs.Phases.{saturated}
 use Rattle.jvm_model.specs.Linked.{Linked, refusal_of_main}
 
 -- the most bytes of a method's machine code
@@ -17,7 +18,7 @@ bytes_of linked = length (code_for linked.body)
 pub record HasLongCode (files : List (List ℕ)) (refusal : Refusal) : Type 0 where
   pub linked : Linked files
   pub exceeds : most_code_bytes < bytes_of linked
-  pub is : refusal ≡ refusal_of_main CodeTooLong (bytes_of linked)
+  pub is : refusal ≡ refusal_of_main CodeTooLong (saturated (bytes_of linked))
 
 abbrev pub CodeLength : List (List ℕ) → Option Refusal → Type 0
 CodeLength files None = (linked : Linked files) → bytes_of linked ≤ most_code_bytes

@@ -33,6 +33,17 @@ FirstRefusal [] files found = found ≡ None
 FirstRefusal (phase ∷ rest) files None = phase files None × FirstRefusal rest files None
 FirstRefusal (phase ∷ rest) files (Some refusal) = phase files (Some refusal) ⊎ (phase files None × FirstRefusal rest files (Some refusal))
 
+-- the phase has an answer for each set of files of bytes, and one at most
+pub record IsFunction (phase : Phase) : Type 0 where
+  pub total : (files : List (List ℕ)) → AreBytes files → (found : Option Refusal) × phase files found
+  pub unique : (files : List (List ℕ)) (first second : Option Refusal) → phase files first → phase files second → first ≡ second
+
+abbrev pub AreFunctions : List Phase → Type 0
+AreFunctions [] = Unit {0}
+AreFunctions (phase ∷ rest) = IsFunction phase × AreFunctions rest
+
+-- ---- the verdict
+
 abbrev pub Verdict : List (List ℕ) → Option Refusal → Type 0
 Verdict files found = FirstRefusal phases files found
 

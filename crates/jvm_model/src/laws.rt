@@ -7,12 +7,14 @@ ghost use Rattle.jvm_model.specs.declared.refusal.Refusal.{Refusal};
 ghost use Rattle.jvm_model.specs.Program.{Program};
 ghost use Rattle.jvm_model.specs.Machine.{Ending, EndsSo, LimitedSo};
 ghost use Rattle.jvm_model.specs.Linked.{Linked};
-ghost use Rattle.jvm_model.specs.Verdict.{Verdict, Accepted, AreBytes};
+ghost use Rattle.jvm_model.specs.Verdict.{Verdict, Accepted, AreBytes, AreFunctions, phases};
 ghost use Rattle.jvm_model.specs.SetRun.{Run, LimitedRun, is_want, IsPrefix};
 ghost use Rattle.jvm_model.specs.SetImage.{IsImageOf};
 
-/// Each set of files of bytes has a verdict, and no set has two.
+/// Each phase has an answer for each set of files of bytes, and one at most; and so each such set has one
+/// verdict.
 pub fn one_verdict()
+    ensures phases { AreFunctions phases }
     ensures total { (files : List (List ℕ)) → AreBytes files → (found : Option Refusal) × Verdict files found }
     ensures unique { (files : List (List ℕ)) (first second : Option Refusal) → Verdict files first → Verdict files second → first ≡ second }
 {}

@@ -1,4 +1,4 @@
-use Rattle.std.proofs.Common.{Vec, Global, ◌≡◌, inl, inr, ℕ, List, Some, map, sym, ap, ◌∙◌, subst}
+use Rattle.std.proofs.Common.{Vec, Global, ◌≡◌, inl, inr, ℕ, List, map, sym, ap, ◌∙◌, subst}
 use Rattle.std.specs.List.{AllByRecursion}
 use Rattle.std.specs.Prelude.{Result, Ok, Err, IsErrAnd, IfErr}
 use Rattle.class_file.specs.declared.record.ClassFile.{ClassFile}
