@@ -16,6 +16,23 @@ under locals tops operands =
 pub two_after : (rest : List ℕ) (a b c d : ℕ) → rest ++ a ∷ b ∷ c ∷ d ∷ [] ≡ (rest ++ a ∷ b ∷ []) ++ c ∷ d ∷ []
 two_after rest a b c d = sym (append_assoc rest (a ∷ b ∷ []) (c ∷ d ∷ []))
 
+head_of : (x y : ℕ) (xs ys : List ℕ) → x ∷ xs ≡ y ∷ ys → x ≡ y
+head_of x y xs ys e = cc
+
+tail_of : (x y : ℕ) (xs ys : List ℕ) → x ∷ xs ≡ y ∷ ys → xs ≡ ys
+tail_of x y xs ys e = cc
+
+-- the two topmost cells are known
+pub same_pair : (xs ys : List ℕ) (a b c d : ℕ) → xs ++ a ∷ b ∷ [] ≡ ys ++ c ∷ d ∷ [] → (xs ≡ ys) × ((a ≡ c) × (b ≡ d))
+same_pair [] [] a b c d e =
+    (refl, (head_of a c (b ∷ []) (d ∷ []) e, head_of b d [] [] (tail_of a c (b ∷ []) (d ∷ []) e)))
+same_pair [] (y ∷ ys) a b c d e = absurd (omega (arith, ap length e, length-append ys (c ∷ d ∷ [])))
+same_pair (x ∷ xs) [] a b c d e = absurd (omega (arith, ap length e, length-append xs (a ∷ b ∷ [])))
+same_pair (x ∷ xs) (y ∷ ys) a b c d e =
+    let first = head_of x y (xs ++ a ∷ b ∷ []) (ys ++ c ∷ d ∷ []) e in
+    let rest = same_pair xs ys a b c d (tail_of x y (xs ++ a ∷ b ∷ []) (ys ++ c ∷ d ∷ []) e) in
+    (λ i. first i ∷ rest.0 i, rest.1)
+
 -- what was pushed lies on the operands
 pub pushed : (old new locals operands tops : List ℕ) → AreCells old locals operands → new ≡ old ++ reverse tops → AreCells new locals (tops ++ operands)
 pushed old new locals operands tops are is =

@@ -78,6 +78,34 @@ pub(crate) fn pop(cells: &mut Cells) -> u16
     cells.slots[cells.top]
 }
 
+/// Pushes two cells, the second on top.
+#[inline(always)]
+fn push_pair(cells: &mut Cells, low: u16, high: u16)
+    requires { length cells.old.items + 2 ≤ cells.old.room }
+    ensures items { cells.new.items ≡ cells.old.items ++ low ∷ high ∷ [] }
+    ensures room { cells.new.room ≡ cells.old.room }
+{
+    let top = cells.top;
+    let slots = cells.slots.as_mut_slice();
+    slots[top] = low;
+    slots[top + 1] = high;
+    cells.top = top + 2;
+}
+
+/// Takes the two topmost cells, the second from the top.
+#[inline(always)]
+fn pop_pair(cells: &mut Cells) -> (u16, u16)
+    requires { 2 ≤ length cells.old.items }
+    ensures items { cells.old.items ≡ cells.new.items ++ result.0 ∷ result.1 ∷ [] }
+    ensures fits { length cells.old.items ≤ cells.old.room }
+    ensures room { cells.new.room ≡ cells.old.room }
+{
+    let top = cells.top - 2;
+    cells.top = top;
+    let slots = cells.slots.as_slice();
+    (slots[top], slots[top + 1])
+}
+
 /// Pushes a number.
 #[inline(always)]
 pub(crate) fn push_number(cells: &mut Cells, number: i32)
@@ -86,8 +114,7 @@ pub(crate) fn push_number(cells: &mut Cells, number: i32)
     ensures room { cells.new.room ≡ cells.old.room }
 {
     let (low, high) = split(number);
-    push(cells, low);
-    push(cells, high);
+    push_pair(cells, low, high);
 }
 
 /// Takes the number on top.
@@ -100,8 +127,7 @@ pub(crate) fn pop_number(cells: &mut Cells) -> i32
     ensures fits { length cells.old.items ≤ cells.old.room }
     ensures room { cells.new.room ≡ cells.old.room }
 {
-    let high = pop(cells);
-    let low = pop(cells);
+    let (low, high) = pop_pair(cells);
     join(low, high)
 }
 
@@ -125,8 +151,7 @@ pub(crate) fn load(cells: &mut Cells, local: u16)
     ensures room { cells.new.room ≡ cells.old.room }
 {
     let (low, high) = local_pair(cells.items(), local);
-    push(cells, low);
-    push(cells, high);
+    push_pair(cells, low, high);
 }
 
 /// Writes a number to a local.
@@ -137,8 +162,9 @@ fn write_local(cells: &mut Cells, local: u16, low: u16, high: u16)
     ensures room { cells.new.room ≡ cells.old.room }
 {
     let place = usize::from(local);
-    cells.slots[place] = low;
-    cells.slots[place + 1] = high;
+    let slots = cells.slots.as_mut_slice();
+    slots[place] = low;
+    slots[place + 1] = high;
 }
 
 /// Takes the number on top into a local.
@@ -149,8 +175,7 @@ pub(crate) fn store(cells: &mut Cells, local: u16)
         → cells.new.items ≡ with_local rest local low high }
     ensures room { cells.new.room ≡ cells.old.room }
 {
-    let high = pop(cells);
-    let low = pop(cells);
+    let (low, high) = pop_pair(cells);
     write_local(cells, local, low, high);
 }
 

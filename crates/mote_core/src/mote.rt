@@ -8,7 +8,7 @@ ghost use Rattle.mote_core.specs.Ran.{Ran, IsEndingSoFar};
 
 use crate::act::{Active, act};
 use crate::cells::Cells;
-use crate::turn::execute;
+use crate::turn::{Turn, execute};
 use host_face::Console;
 use image_check::Checked;
 use image_form::{Image, Method};
@@ -90,8 +90,13 @@ impl Mote {
             let (insn, size) = decode_known(code, self.active.pc);
             let turn = execute(code, self.active.pc, insn, &mut self.active.cells);
             let next = self.active.pc + size;
-            if let Err(ending) = act(turn, next, &mut self.active, console) {
-                return ending;
+            match turn {
+                Turn::Next => self.active.pc = next,
+                _ => {
+                    if let Err(ending) = act(turn, next, &mut self.active, console) {
+                        return ending;
+                    }
+                }
             }
         }
     }

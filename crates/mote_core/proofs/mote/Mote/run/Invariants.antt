@@ -5,8 +5,8 @@ use Rattle.mote_core.proofs.Going.{Going, left_at}
 use Rattle.mote_core.proofs.mote.Mote.run.Given as goal
 
 -- the run has come so far, and the cells have room for all of the stack
-abbrev pub invariant-loop-ending : goal.invariant-loop-ending
-invariant-loop-ending g l =
+abbrev pub invariant-loop-self : goal.invariant-loop-self
+invariant-loop-self g l =
     let console = g.C.Console in
     let active = l.self-inside.1.1.1.1.0 in
     record {
@@ -14,7 +14,7 @@ invariant-loop-ending g l =
       room : l.fn.self.stack ≤ active.cells.room;
     }
 
-abbrev pub decreases-loop-ending : goal.decreases-loop-ending
-decreases-loop-ending g l =
+abbrev pub decreases-loop-self : goal.decreases-loop-self
+decreases-loop-self g l =
     let active = l.self-inside.1.1.1.1.0 in
     left_at l.code (place active.pc active.cells.items active.left)
