@@ -1,18 +1,19 @@
 -- What the run of a mote answers is the reply of its image.
-use Rattle.std.proofs.Common.{◌≡◌, ℕ, List, Option, Some, None, refl, sym, ap, subst, ◌∙◌}
+use Rattle.std.proofs.Common.{◌≡◌, ℕ, List, Option, Some, None, refl, ap, subst}
 use Rattle.std.specs.Prelude.{IfSome}
-use Rattle.dialogue.specs.Dialogue.{Item}
 use Rattle.dialogue.specs.Outcome.{Outcome}
 use Rattle.image_form.specs.declared.record.Image.{Image}
 use Rattle.mote_model.specs.declared.ending.Ending.{Ending}
 use Rattle.mote_model.specs.declared.ending.Ending.TheVariants.{Done, Uncaught, Spent, HeapWanted, StackWanted, ConsoleFault, Misfit}
 use Rattle.mote_core.specs.Ready.{Ready, limits_of}
 use Rattle.mote_core.specs.Good.{IsStepEnding}
-use Rattle.mote_core.specs.Ran.{MayEnd, Ended, Failed, IsEndingSoFar, Ran}
-use Rattle.mote_top.specs.declared.status.Status.{Status}
+use Rattle.mote_core.specs.Ran as ran
+use Rattle.mote_core.specs.Ran.{MayEnd, Ended, IsEndingSoFar, Ran}
 use Rattle.mote_top.specs.Endings.{split_status}
-use Rattle.mote_top.specs.Reply as reply
-use Rattle.mote_top.specs.Reply.{Reply, RunsImage, OnInput, IsRunEnd, Replied, Answers, dialogue_of}
+use Rattle.mote_top.specs.Call.{Spoken, spoken}
+use Rattle.mote_top.specs.Reply.{Reply, RunsImage, ImageEndsAs, IsRunEnd, dialogue_of}
+use Rattle.mote_top.specs.Answer.{Replied, Failed, Answers}
+use Rattle.mote_top.proofs.Answering.{said_of, broke_of}
 
 -- an ending so far has the status of a run's end, where the console did not fail
 abbrev IsEnd : Ending → Type 0
@@ -37,38 +38,49 @@ step_status image _ known = absurd known
 abbrev made : Image → Outcome Ending → Option (List ℕ) → Reply
 made image outcome left = record { status = split_status image outcome.ending; dialogue = outcome.dialogue; left = left }
 
-runs_so : (ready : Ready) (ticks : ℕ) (old now : Option (List ℕ)) (outcome : Outcome Ending) → MayEnd ready ticks old outcome → IfSome old (λ _. now ≡ Some outcome.left) → OnInput old (RunsImage ready.image (limits_of ready ticks)) (made ready.image outcome now)
+runs_so : (ready : Ready) (ticks : ℕ) (old now : Option (List ℕ)) (outcome : Outcome Ending) → MayEnd ready ticks old outcome → IfSome old (λ _. now ≡ Some outcome.left) → IfSome old (λ input. ImageEndsAs ready.image (limits_of ready ticks) input (made ready.image outcome now))
 runs_so ready ticks None now outcome may same = tt
 runs_so ready ticks (Some input) now outcome may same = record { outcome = outcome; ends = may; is = ap (made ready.image outcome) same }
 
-fails_so : (ready : Ready) (ticks : ℕ) (old : Option (List ℕ)) (outcome : Outcome Ending) → MayEnd ready ticks old outcome → OnInput old (RunsImage ready.image (limits_of ready ticks)) (made ready.image outcome (Some outcome.left))
+fails_so : (ready : Ready) (ticks : ℕ) (old : Option (List ℕ)) (outcome : Outcome Ending) → MayEnd ready ticks old outcome → IfSome old (λ input. ImageEndsAs ready.image (limits_of ready ticks) input (made ready.image outcome (Some outcome.left)))
 fails_so ready ticks None outcome may = tt
 fails_so ready ticks (Some input) outcome may = record { outcome = outcome; ends = may; is = refl }
 
 module _ {C : Type 0} (left shown noted : C → Option (List ℕ)) (faults : C → ℕ) (room : C → Option ℕ) (ready : Ready) (ticks : ℕ) (old new : C) where
   abbrev May : Reply → Type 0
-  May r = OnInput (left old) (RunsImage ready.image (limits_of ready ticks)) r × IsRunEnd r.status
+  May reply = RunsImage ready.image (limits_of ready ticks) (left old) reply
 
-  ended : (ending : Ending) → IsEnd ending → Ended left shown noted faults room ready ticks old new ending → Replied left shown noted faults room dialogue_of May old new (split_status ready.image ending)
+  abbrev before : Spoken
+  before = spoken left shown noted faults room old
+
+  abbrev after : Spoken
+  after = spoken left shown noted faults room new
+
+  ended : (ending : Ending) → IsEnd ending → Ended left shown noted faults room ready ticks old new ending → Replied dialogue_of May before after (split_status ready.image ending)
   ended ending end e =
       record {
         reply = made ready.image e.outcome (left new);
-        may = (runs_so ready ticks (left old) (left new) e.outcome e.may e.same_left, subst (λ (x : Ending). IsRunEnd (split_status ready.image x)) e.same (end_status ready.image ending end));
+        may =
+            record {
+              status = subst (λ (x : Ending). IsRunEnd (split_status ready.image x)) e.same (end_status ready.image ending end);
+              told = runs_so ready ticks (left old) (left new) e.outcome e.may e.same_left;
+            };
         same = ap (split_status ready.image) e.same;
-        talked = e.talked;
+        talked = said_of left shown noted faults room old new e.outcome.dialogue e.talked;
         same_left = refl;
+        rest = e.rest;
       }
 
-  failed : Failed left shown noted faults room ready ticks old new → reply.Failed shown noted faults room dialogue_of May old new
+  failed : ran.Failed left shown noted faults room ready ticks old new → Failed dialogue_of May before after
   failed f =
       record {
         reply = made ready.image f.outcome (Some f.outcome.left);
-        may = (fails_so ready ticks (left old) f.outcome f.may, step_status ready.image f.outcome.ending f.known);
-        broke = f.broke;
+        may = record { status = step_status ready.image f.outcome.ending f.known; told = fails_so ready ticks (left old) f.outcome f.may };
+        broke = broke_of left shown noted faults room old new f.outcome.dialogue f.broke;
       }
 
   -- the run answered this ending
-  pub run_answers : (ending : Ending) → IsEndingSoFar ending → Ran left shown noted faults room ready ticks old new ending → Answers left shown noted faults room dialogue_of May old new (split_status ready.image ending)
+  pub run_answers : (ending : Ending) → IsEndingSoFar ending → Ran left shown noted faults room ready ticks old new ending → Answers dialogue_of May before after (split_status ready.image ending)
   run_answers ConsoleFault so_far f = failed f
   run_answers Done so_far e = ended Done (no_fault_done, so_far) e
     where
