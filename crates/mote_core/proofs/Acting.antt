@@ -1,7 +1,7 @@
 -- Turns that are done over a console: what follows of them in the split machine.
 use Rattle.std.proofs.Common.{◌≡◌, ℕ, ℤ, ◌+◌, ◌<◌, ◌≤◌, true, false, List, [], ◌∷◌, Option, Result, Ok, Err, refl, sym, ap, subst, ◌∙◌, arith, rules, inl, inr}
 use Rattle.std.specs.Prelude.{nat_le, nat_lt}
-use Rattle.dialogue.specs.Answers.{Answers}
+use Rattle.dialogue.specs.Answers.{Answers, MayGive}
 use Rattle.dialogue.specs.Dialogue.{Item, Get, putting, gets, gets-putting}
 use Rattle.dialogue.specs.Limits.{Limits}
 use Rattle.dialogue.specs.Natives.{next_byte, after_byte}
@@ -18,7 +18,6 @@ use Rattle.mote_core.specs.declared.turn.Turn.{Turn}
 use Rattle.mote_core.specs.declared.turn.Turn.TheVariants.{Next, Jump, Throw, Return, Read}
 use Rattle.mote_core.specs.Turns.{meaning, with_top}
 use Rattle.mote_core.specs.Good.{IsStepEnding}
-use Rattle.mote_core.specs.MayGive.{MayGive}
 use Rattle.mote_core.specs.Acts.{Place, IsPlaceOf, IsJump, IsRead, with_answers, Shows, Acts}
 use Rattle.mote_core.proofs.Giving.{some_answers, may-some}
 use Rattle.mote_core.proofs.Tops.{pushed}

@@ -2,14 +2,13 @@
 use Rattle.std.proofs.Common.{◌≡◌, ℕ, List, [], drop, Option, Some, None, refl, subst}
 use Rattle.std.specs.Prelude.{IfSome}
 use Rattle.std.proofs.lemmas.Option.{none-some}
-use Rattle.dialogue.specs.Answers.{Answers, answers_of}
+use Rattle.dialogue.specs.Answers.{Answers, answers_of, MayGive, TellsLeft}
 use Rattle.dialogue.specs.Outcome.{Outcome}
 use Rattle.host_face.specs.Talk.{without_first}
 use Rattle.mote_model.specs.declared.ending.Ending.{Ending}
 use Rattle.mote_model.specs.Machine.{LimitedSo}
-use Rattle.mote_core.specs.MayGive.{MayGive}
 use Rattle.mote_core.specs.Ready.{Ready, limits_of}
-use Rattle.mote_core.specs.Ran.{MayEnd, TellsLeft}
+use Rattle.mote_core.specs.Ran.{MayEnd}
 
 -- some answers are there
 pub some_answers : Option (List ℕ) → Answers

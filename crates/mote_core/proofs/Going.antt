@@ -3,7 +3,7 @@ use Rattle.std.proofs.Common.{◌≡◌, ℕ, zero, suc, ◌+◌, ◌-◌, ◌*�
 use Rattle.std.specs.Prelude.{IsSome, nat_le, replicate}
 use Rattle.std.proofs.lemmas.List.{append-nil}
 use Rattle.std.proofs.lemmas.Option.{none-some, some_pair_parts}
-use Rattle.dialogue.specs.Answers.{Answers}
+use Rattle.dialogue.specs.Answers.{Answers, MayGive}
 use Rattle.dialogue.specs.Dialogue.{Item, gets}
 use Rattle.dialogue.specs.Limits.{Limits}
 use Rattle.dialogue.specs.Outcome.{Outcome}
@@ -26,7 +26,6 @@ use Rattle.mote_core.specs.Ready.{Ready, limits_of}
 use Rattle.mote_core.specs.Good.{IsGood, IsNearer, IsGoodStep, left_of, IsStepEnding}
 use Rattle.mote_core.specs.Ran.{Ended, Failed, Ran, IsEndingSoFar}
 use Rattle.mote_core.specs.Turns.{AreCells, CanRun, IsTurn, Runs, meaning}
-use Rattle.mote_core.specs.MayGive.{MayGive}
 use Rattle.mote_core.specs.Acts.{Place, IsPlaceOf, with_answers, place, Shows, Acts}
 use Rattle.mote_core.proofs.Giving.{some_answers, may-some, may-end, tells-left}
 use Rattle.mote_core.proofs.Progress.{holds_here, step_good, start_good, ends_from}

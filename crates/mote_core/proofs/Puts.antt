@@ -4,13 +4,12 @@ use Rattle.std.specs.Prelude.{IsNone, IsSome, true, false}
 use Rattle.std.proofs.lemmas.Bool.{false≢true}
 use Rattle.std.proofs.lemmas.List.{take_more, map_push, map-append}
 use Rattle.std.proofs.Math.Seq.{drop-cons}
-use Rattle.dialogue.specs.Answers.{Answers, answers_of}
+use Rattle.dialogue.specs.Answers.{Answers, answers_of, MayGive}
 use Rattle.dialogue.specs.Dialogue.{Get, Put, putting}
 use Rattle.host_face.specs.Faults.{Rose}
 use Rattle.host_face.specs.Console.{Takes}
 use Rattle.host_face.specs.Talk.{Talked, BrokeOff}
 use Rattle.host_face.proofs.TalkLemmas.{with_bytes-nil}
-use Rattle.mote_core.specs.MayGive.{MayGive}
 use Rattle.mote_core.specs.Acts.{IsRead}
 
 mod_below : (n k : ℕ) → n < k → n % k ≡ n

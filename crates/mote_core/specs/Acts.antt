@@ -1,6 +1,6 @@
 -- What a turn does: the rest of the step, over a console.
 use Rattle.std.specs.Prelude.{◌≡◌, ℕ, ℤ, ◌+◌, ◌<◌, ◌≤◌, ◌⊎◌, Bool, true, false, List, [], ◌∷◌, Option, Result, Ok, Err}
-use Rattle.dialogue.specs.Answers.{Answers}
+use Rattle.dialogue.specs.Answers.{Answers, MayGive}
 use Rattle.dialogue.specs.Dialogue.{Item, gets}
 use Rattle.dialogue.specs.Limits.{Limits}
 use Rattle.dialogue.specs.Natives.{next_byte, after_byte}
@@ -11,7 +11,6 @@ use Rattle.mote_model.specs.declared.ending.Ending.TheVariants.{Spent, ConsoleFa
 use Rattle.mote_model.specs.State.{Frame, State}
 use Rattle.mote_core.specs.declared.turn.Turn.{Turn}
 use Rattle.mote_core.specs.Good.{IsStepEnding}
-use Rattle.mote_core.specs.MayGive.{MayGive}
 use Rattle.mote_core.specs.Turns.{AreCells, meaning}
 
 -- where the machine is: the pc, the cells, and the ticks that are left

@@ -1,5 +1,4 @@
 pub mod Ready
-pub mod MayGive
 pub mod Ran
 pub mod Good
 pub mod Turns

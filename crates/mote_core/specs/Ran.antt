@@ -1,7 +1,7 @@
 -- What a run of a mote leaves on a console: each word takes the console's meanings, then the console
 -- before and after.
-use Rattle.std.specs.Prelude.{◌≡◌, ℕ, List, Option, Some, None, IfSome, IsSomeAnd}
-use Rattle.dialogue.specs.Answers.{Answers, answers_of}
+use Rattle.std.specs.Prelude.{◌≡◌, ℕ, List, Option, Some, None, IfSome}
+use Rattle.dialogue.specs.Answers.{Answers, answers_of, TellsLeft}
 use Rattle.dialogue.specs.Outcome.{Outcome}
 use Rattle.dialogue.specs.Dialogue.{gets}
 use Rattle.host_face.specs.Talk.{Talked, BrokeOff, without_first}
@@ -16,10 +16,6 @@ use Rattle.mote_core.specs.Good.{IsStepEnding}
 abbrev pub MayEnd : Ready → ℕ → Option (List ℕ) → Outcome Ending → Type 0
 MayEnd ready ticks (Some input) outcome = LimitedSo ready.image (limits_of ready ticks) (answers_of input) outcome
 MayEnd ready ticks None outcome = (answers : Answers) × LimitedSo ready.image (limits_of ready ticks) answers outcome
-
--- what is left tells the answers that the run left
-abbrev pub TellsLeft : Option (List ℕ) → Answers → Type 0
-TellsLeft left answers = IsSomeAnd left (λ input. answers ≡ answers_of input)
 
 -- the endings so far: no object is made yet, and what is thrown is an ArithmeticException, of id 4
 abbrev pub IsEndingSoFar : Ending → Type 0
