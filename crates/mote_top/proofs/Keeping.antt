@@ -17,11 +17,11 @@ use Rattle.jvm_model.specs.declared.refusal.Refusal.{Refusal}
 use Rattle.jvm_model.specs.Machine as typed
 use Rattle.jvm_model.proofs.SetRuns.{limited_run_is_one}
 use Rattle.infuse_link.proofs.AcceptedSets.{set_image, set_checked, set_built}
-use Rattle.mote_top.specs.declared.status.Status.{Status}
-use Rattle.mote_top.specs.declared.status.Status.TheVariants.{Done, Words, Refused, ConsoleFault, ShelfFault, Memory}
 use Rattle.jvm_model.specs.SetRun.{LimitedRun}
 use Rattle.jvm_model.specs.SetImage.{IsImageOf}
 use Rattle.jvm_model.specs.Verdict.{Accepted, IsRefused}
+use Rattle.mote_top.specs.declared.status.Status.{Status}
+use Rattle.mote_top.specs.declared.status.Status.TheVariants.{Done, Words, Refused, ConsoleFault, ShelfFault, Memory}
 use Rattle.mote_top.specs.Words.{FaultsAt}
 use Rattle.mote_top.specs.Status.{note_of}
 use Rattle.mote_top.specs.Endings.{typed_status, split_status}

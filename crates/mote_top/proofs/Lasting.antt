@@ -4,9 +4,9 @@ use Rattle.std.specs.FinMap.{get, insert}
 use Rattle.host_face.specs.Shelf.{Files}
 use Rattle.image_form.specs.Format.{encoding}
 use Rattle.jvm_model.specs.declared.refusal.Refusal.{Refusal}
+use Rattle.jvm_model.specs.Verdict.{IsRefused}
 use Rattle.mote_top.specs.declared.status.Status.{Status}
 use Rattle.mote_top.specs.declared.status.Status.TheVariants.{ConsoleFault, ShelfFault, Memory}
-use Rattle.jvm_model.specs.Verdict.{IsRefused}
 use Rattle.mote_top.specs.Words.{IsName, FitsOption, run_of, limits_of}
 use Rattle.mote_top.specs.Call.{Call, After}
 use Rattle.mote_top.specs.Headline.{RunsSet, InfusesTo, StoresInfusion, IsAnswer, HasCause, ChangesOwn, NoneRose}

@@ -5,10 +5,10 @@ use Rattle.std.proofs.Math.Seq.{drop-cons}
 use Rattle.std.specs.List.{flat_map}
 use Rattle.std.proofs.lemmas.List.Concat.{flat_map-append}
 use Rattle.dialogue.specs.Dialogue.{Note, noting, gets, gets-noting}
-use Rattle.mote_top.specs.Status.{blank_number, line}
 use Rattle.host_face.specs.declared.console.ConsoleFailed.{ConsoleFailed}
 use Rattle.host_face.specs.Talk.{without_first, Talked, BrokeOff, Says}
 use Rattle.host_face.proofs.TalkLemmas.{same-without, Talked-then, BrokeOff-prefix, BrokeOff-then, Says-then}
+use Rattle.mote_top.specs.Status.{blank_number, line}
 
 pub noting-append : (first second : List ℕ) → noting (first ++ second) ≡ noting first ++ noting second
 noting-append first second = map-append Note first second

@@ -28,11 +28,11 @@ use Rattle.mote_model.specs.declared.ending.Ending.TheVariants as split
 use Rattle.mote_model.specs.Machine.{machine, start_of}
 use Rattle.infuse_link.specs.RunsAlike.{SameEnding, RunsAlike}
 use Rattle.infuse_link.proofs.AcceptedSets.{set_runs as runs_alike}
+use Rattle.jvm_model.specs.SetImage.{IsImageOf}
+use Rattle.jvm_model.specs.Verdict.{IsRefused}
 use Rattle.mote_top.specs.declared.status.ImageRefusal.{ImageRefusal}
 use Rattle.mote_top.specs.declared.status.Status.{Status}
 use Rattle.mote_top.specs.declared.status.Status.TheVariants.{Uncaught, Refused, Infusion, HeapWanted, StackWanted, Memory}
-use Rattle.jvm_model.specs.SetImage.{IsImageOf}
-use Rattle.jvm_model.specs.Verdict.{IsRefused}
 use Rattle.mote_top.specs.Endings.{typed_status, split_status, form_refusal, check_refusal}
 use Rattle.mote_top.specs.Reply.{Reply, EndsAs, SetReplies, IsNoInfusion, IsInfusion, ImageEndsAs, RunsImage, InfusionReplies, left_of}
 use Rattle.mote_top.specs.Answer.{IsQuiet}

@@ -14,13 +14,13 @@ use Rattle.image_form.specs.declared.record.Image.{Image}
 use Rattle.image_form.specs.Format.{encoding}
 use Rattle.mote_model.specs.declared.ending.Ending.{Ending}
 use Rattle.mote_model.specs.Machine.{LimitedSo}
-use Rattle.mote_top.specs.declared.status.ImageRefusal.{ImageRefusal}
-use Rattle.mote_top.specs.declared.status.Status.{Status}
-use Rattle.mote_top.specs.declared.status.Status.TheVariants.{Done, Infusion, ConsoleFault, ShelfFault, Memory}
 use Rattle.jvm_model.specs.Machine as typed
 use Rattle.jvm_model.specs.SetImage.{IsImageOf}
 use Rattle.jvm_model.specs.SetRun.{LimitedRun}
 use Rattle.jvm_model.specs.Verdict.{Accepted}
+use Rattle.mote_top.specs.declared.status.ImageRefusal.{ImageRefusal}
+use Rattle.mote_top.specs.declared.status.Status.{Status}
+use Rattle.mote_top.specs.declared.status.Status.TheVariants.{Done, Infusion, ConsoleFault, ShelfFault, Memory}
 use Rattle.mote_top.specs.Words.{IsName, infuse_of, run_of, go_of, limits_of, FitsOption}
 use Rattle.mote_top.specs.Status.{note_of}
 use Rattle.mote_top.specs.Endings.{typed_status, split_status}

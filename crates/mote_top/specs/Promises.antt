@@ -5,9 +5,9 @@ use Rattle.dialogue.specs.Limits.{Limits}
 use Rattle.dialogue.specs.Outcome.{Outcome}
 use Rattle.jvm_model.specs.Machine as typed
 use Rattle.jvm_model.specs.declared.refusal.Refusal.{Refusal}
-use Rattle.mote_top.specs.declared.status.Status.TheVariants.{Words, Refused}
 use Rattle.jvm_model.specs.SetRun.{LimitedRun}
 use Rattle.jvm_model.specs.Verdict.{Accepted, IsRefused}
+use Rattle.mote_top.specs.declared.status.Status.TheVariants.{Words, Refused}
 use Rattle.mote_top.specs.Words.{FaultsAt}
 use Rattle.mote_top.specs.Endings.{typed_status}
 use Rattle.mote_top.specs.Call.{Call, After}

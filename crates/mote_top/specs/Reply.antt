@@ -19,12 +19,12 @@ use Rattle.jvm_model.specs.Machine as typed
 use Rattle.jvm_model.specs.declared.refusal.Refusal.{Refusal}
 use Rattle.mote_model.specs.declared.ending.Ending.{Ending}
 use Rattle.mote_model.specs.Machine.{LimitedSo}
-use Rattle.mote_top.specs.declared.status.Status.{Status}
-use Rattle.mote_top.specs.declared.status.Status.TheVariants.{Done, Uncaught, Words, Refused, Infusion, Spent, StackWanted, ShelfFault}
-use Rattle.mote_top.specs.declared.status.ImageRefusal.{ImageRefusal}
 use Rattle.jvm_model.specs.SetRun.{LimitedRun}
 use Rattle.jvm_model.specs.SetImage.{IsImageOf}
 use Rattle.jvm_model.specs.Verdict.{Accepted, IsRefused}
+use Rattle.mote_top.specs.declared.status.Status.{Status}
+use Rattle.mote_top.specs.declared.status.Status.TheVariants.{Done, Uncaught, Words, Refused, Infusion, Spent, StackWanted, ShelfFault}
+use Rattle.mote_top.specs.declared.status.ImageRefusal.{ImageRefusal}
 use Rattle.mote_top.specs.Words.{IsName, infuse_of, run_of, go_of, class_place, limits_of, FitsOption, FaultsAt}
 use Rattle.mote_top.specs.Status.{note_of}
 use Rattle.mote_top.specs.Endings.{typed_status, split_status, form_refusal, check_refusal}

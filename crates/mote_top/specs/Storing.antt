@@ -3,9 +3,9 @@ use Rattle.std.specs.Prelude.{◌≡◌, ℕ, List, Option, option_map}
 use Rattle.std.specs.FinMap.{insert}
 use Rattle.host_face.specs.Faults.{Rose}
 use Rattle.host_face.specs.Shelf.{Files, ChangesOnly}
+use Rattle.jvm_model.specs.Verdict.{IsRefused}
 use Rattle.mote_top.specs.declared.status.Status.{Status}
 use Rattle.mote_top.specs.declared.status.Status.TheVariants.{Done, Refused, ShelfFault, Memory}
-use Rattle.jvm_model.specs.Verdict.{IsRefused}
 
 -- the status of a set that is refused, or want of memory
 abbrev pub IsRefusedStatus : List (List ℕ) → Status → Type 0

@@ -1,9 +1,9 @@
 ghost use Rattle.std.specs.Prelude.{◌≡◌, ◌≢◌, ℕ, List, Option};
 ghost use Rattle.image_form.specs.declared.record.Image.{Image};
 ghost use Rattle.jvm_model.specs.declared.refusal.Refusal.{Refusal};
+ghost use Rattle.jvm_model.specs.Verdict.{IsRefused};
 ghost use Rattle.mote_top.specs.declared.status.ImageRefusal.{ImageRefusal};
 ghost use Rattle.mote_top.specs.declared.status.Status.TheVariants.{Memory as NoMemory};
-ghost use Rattle.jvm_model.specs.Verdict.{IsRefused};
 ghost use Rattle.mote_top.specs.Words.{IsName, FitsOption, run_of, limits_of};
 ghost use Rattle.mote_top.specs.Call.{Call, After};
 ghost use Rattle.mote_top.specs.Reply.{IsInfusion, IsNoInfusion};
