@@ -1,5 +1,6 @@
 -- The image of an accepted set is of the grammar, checked and built, and it runs as the set does.
 use Rattle.std.proofs.Common.{ℕ, List, sym, subst}
+use Rattle.dialogue.specs.Answers.{Answers}
 use Rattle.dialogue.specs.Limits.{Limits}
 use Rattle.image_form.specs.declared.record.Image.{Image}
 use Rattle.image_form.specs.Grammar.{IsImage}
@@ -20,5 +21,5 @@ module _ (files : List (List ℕ)) (image : Image) (is : IsImageOf files image) 
   pub set_built : IsBuilt image
   set_built = subst IsBuilt (sym is.image_is) (image_built files is.linked.file is.linked.code is.linked.body (number_set files is.accepted is.linked))
 
-  pub set_runs : (limits : Limits) (input : List ℕ) → RunsAlike files image limits input
-  set_runs limits input = subst (λ (i : Image). RunsAlike files i limits input) (sym is.image_is) (runs_alike files is.accepted is.linked limits input)
+  pub set_runs : (limits : Limits) (answers : Answers) → RunsAlike files image limits answers
+  set_runs limits answers = subst (λ (i : Image). RunsAlike files i limits answers) (sym is.image_is) (runs_alike files is.accepted is.linked limits answers)

@@ -1,6 +1,7 @@
 -- What the infuser keeps: the limited run of an accepted set on the typed machine, and that of its image on
 -- the split machine, are there and show the same.
 use Rattle.std.specs.Prelude.{◌≡◌, ℕ, List}
+use Rattle.dialogue.specs.Answers.{Answers}
 use Rattle.dialogue.specs.Limits.{Limits}
 use Rattle.dialogue.specs.Outcome.{Outcome}
 use Rattle.dialogue.specs.Simulation.{SameOutcome}
@@ -22,9 +23,9 @@ SameEnding image (typed.StackWanted need used) (endings.StackWanted other_need o
 SameEnding image _ _ = ⊥
 
 -- the limited run of the accepted set and that of the image end, and show the same
-pub record RunsAlike (files : List (List ℕ)) (image : Image) (limits : Limits) (input : List ℕ) : Type 0 where
+pub record RunsAlike (files : List (List ℕ)) (image : Image) (limits : Limits) (answers : Answers) : Type 0 where
   pub outcome : Outcome typed.Ending
-  pub ends : LimitedRun files limits input outcome
+  pub ends : LimitedRun files limits answers outcome
   pub other : Outcome split.Ending
-  pub ends_other : split_machine.LimitedSo image limits input other
+  pub ends_other : split_machine.LimitedSo image limits answers other
   pub same : SameOutcome (SameEnding image) outcome other

@@ -1,4 +1,5 @@
 ghost use Rattle.std.specs.Prelude.{ℕ, List};
+ghost use Rattle.dialogue.specs.Answers.{Answers};
 ghost use Rattle.dialogue.specs.Limits.{Limits};
 ghost use Rattle.image_form.specs.declared.record.Image.{Image};
 ghost use Rattle.image_form.specs.Grammar.{IsImage};
@@ -12,5 +13,5 @@ pub fn accepted_sets_run()
     ensures image { (files : List (List ℕ)) (image : Image) → IsImageOf files image → IsImage image }
     ensures checked { (files : List (List ℕ)) (image : Image) → IsImageOf files image → IsChecked image }
     ensures built { (files : List (List ℕ)) (image : Image) → IsImageOf files image → IsBuilt image }
-    ensures runs_alike { (files : List (List ℕ)) (image : Image) → IsImageOf files image → (limits : Limits) (input : List ℕ) → RunsAlike files image limits input }
+    ensures runs_alike { (files : List (List ℕ)) (image : Image) → IsImageOf files image → (limits : Limits) (answers : Answers) → RunsAlike files image limits answers }
 {}

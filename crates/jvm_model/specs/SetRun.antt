@@ -1,5 +1,6 @@
 -- The runs of an accepted set on the typed machine, and how its limited run and its unlimited run agree.
 use Rattle.std.specs.Prelude.{◌≡◌, ℕ, Bool, true, false, List, ◌++◌}
+use Rattle.dialogue.specs.Answers.{Answers}
 use Rattle.dialogue.specs.Dialogue.{Item}
 use Rattle.dialogue.specs.Limits.{Limits}
 use Rattle.dialogue.specs.Outcome.{Outcome}
@@ -9,17 +10,17 @@ use Rattle.jvm_model.specs.Linked.{Linked}
 use Rattle.jvm_model.specs.FrameSize.{cells_of}
 use Rattle.jvm_model.specs.Verdict.{Accepted}
 
--- the set is accepted, and its run with so many ticks and no other limit ends so on this input
-pub record Run (files : List (List ℕ)) (ticks : ℕ) (input : List ℕ) (outcome : Outcome Ending) : Type 0 where
+-- the set is accepted, and its run with so many ticks and no other limit ends so on these answers
+pub record Run (files : List (List ℕ)) (ticks : ℕ) (answers : Answers) (outcome : Outcome Ending) : Type 0 where
   pub accepted : Accepted files
   pub linked : Linked files
-  pub ends : EndsSo (program_of linked.file) ticks input outcome
+  pub ends : EndsSo (program_of linked.file) ticks answers outcome
 
--- the set is accepted, and its run within these limits ends so on this input
-pub record LimitedRun (files : List (List ℕ)) (limits : Limits) (input : List ℕ) (outcome : Outcome Ending) : Type 0 where
+-- the set is accepted, and its run within these limits ends so on these answers
+pub record LimitedRun (files : List (List ℕ)) (limits : Limits) (answers : Answers) (outcome : Outcome Ending) : Type 0 where
   pub accepted : Accepted files
   pub linked : Linked files
-  pub ends : LimitedSo (program_of linked.file) (cells_of linked) limits input outcome
+  pub ends : LimitedSo (program_of linked.file) (cells_of linked) limits answers outcome
 
 -- ---- the limited run against the unlimited one
 

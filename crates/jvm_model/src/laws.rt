@@ -1,4 +1,5 @@
 ghost use Rattle.std.specs.Prelude.{◌≡◌, ℕ, false, List, Option};
+ghost use Rattle.dialogue.specs.Answers.{Answers};
 ghost use Rattle.dialogue.specs.Limits.{Limits};
 ghost use Rattle.dialogue.specs.Outcome.{Outcome};
 ghost use Rattle.image_form.specs.declared.record.Image.{Image};
@@ -30,23 +31,23 @@ pub fn sets_are_linked()
 
 /// Each run of an accepted set, with a budget of ticks alone or within limits, ends in one way.
 pub fn one_outcome()
-    ensures runs { (files : List (List ℕ)) → Accepted files → (ticks : ℕ) (input : List ℕ) → (outcome : Outcome Ending) × Run files ticks input outcome }
-    ensures run_is_one { (files : List (List ℕ)) (ticks : ℕ) (input : List ℕ) (first second : Outcome Ending) → Run files ticks input first → Run files ticks input second → first ≡ second }
-    ensures runs_limited { (files : List (List ℕ)) → Accepted files → (limits : Limits) (input : List ℕ) → (outcome : Outcome Ending) × LimitedRun files limits input outcome }
-    ensures limited_run_is_one { (files : List (List ℕ)) (limits : Limits) (input : List ℕ) (first second : Outcome Ending) → LimitedRun files limits input first → LimitedRun files limits input second → first ≡ second }
+    ensures runs { (files : List (List ℕ)) → Accepted files → (ticks : ℕ) (answers : Answers) → (outcome : Outcome Ending) × Run files ticks answers outcome }
+    ensures run_is_one { (files : List (List ℕ)) (ticks : ℕ) (answers : Answers) (first second : Outcome Ending) → Run files ticks answers first → Run files ticks answers second → first ≡ second }
+    ensures runs_limited { (files : List (List ℕ)) → Accepted files → (limits : Limits) (answers : Answers) → (outcome : Outcome Ending) × LimitedRun files limits answers outcome }
+    ensures limited_run_is_one { (files : List (List ℕ)) (limits : Limits) (answers : Answers) (first second : Outcome Ending) → LimitedRun files limits answers first → LimitedRun files limits answers second → first ≡ second }
 {}
 
-/// The run of a program on a budget and an input ends in one way at most, and so does its limited run.
+/// The run of a program on a budget and answers ends in one way at most, and so does its limited run.
 pub fn one_ending()
-    ensures run { (program : Program) (budget : ℕ) (input : List ℕ) (first second : Outcome Ending) → EndsSo program budget input first → EndsSo program budget input second → first ≡ second }
-    ensures limited_run { (program : Program) (cells : ℕ) (limits : Limits) (input : List ℕ) (first second : Outcome Ending) → LimitedSo program cells limits input first → LimitedSo program cells limits input second → first ≡ second }
+    ensures run { (program : Program) (budget : ℕ) (answers : Answers) (first second : Outcome Ending) → EndsSo program budget answers first → EndsSo program budget answers second → first ≡ second }
+    ensures limited_run { (program : Program) (cells : ℕ) (limits : Limits) (answers : Answers) (first second : Outcome Ending) → LimitedSo program cells limits answers first → LimitedSo program cells limits answers second → first ≡ second }
 {}
 
 /// Limits do nothing but end a run early: what the limited run says is a prefix of what the unlimited run of
 /// as many ticks says, and unless it ends with a want of heap or of stack, the unlimited run ends the same.
 pub fn limits_cut()
-    ensures program_said { (program : Program) (cells : ℕ) (limits : Limits) (input : List ℕ) (outcome unlimited : Outcome Ending) → LimitedSo program cells limits input outcome → EndsSo program limits.ticks input unlimited → IsPrefix outcome.dialogue unlimited.dialogue }
-    ensures program_ends { (program : Program) (cells : ℕ) (limits : Limits) (input : List ℕ) (outcome : Outcome Ending) → LimitedSo program cells limits input outcome → is_want outcome.ending ≡ false → EndsSo program limits.ticks input outcome }
-    ensures set_said { (files : List (List ℕ)) (limits : Limits) (input : List ℕ) (outcome unlimited : Outcome Ending) → LimitedRun files limits input outcome → Run files limits.ticks input unlimited → IsPrefix outcome.dialogue unlimited.dialogue }
-    ensures set_ends { (files : List (List ℕ)) (limits : Limits) (input : List ℕ) (outcome : Outcome Ending) → LimitedRun files limits input outcome → is_want outcome.ending ≡ false → Run files limits.ticks input outcome }
+    ensures program_said { (program : Program) (cells : ℕ) (limits : Limits) (answers : Answers) (outcome unlimited : Outcome Ending) → LimitedSo program cells limits answers outcome → EndsSo program limits.ticks answers unlimited → IsPrefix outcome.dialogue unlimited.dialogue }
+    ensures program_ends { (program : Program) (cells : ℕ) (limits : Limits) (answers : Answers) (outcome : Outcome Ending) → LimitedSo program cells limits answers outcome → is_want outcome.ending ≡ false → EndsSo program limits.ticks answers outcome }
+    ensures set_said { (files : List (List ℕ)) (limits : Limits) (answers : Answers) (outcome unlimited : Outcome Ending) → LimitedRun files limits answers outcome → Run files limits.ticks answers unlimited → IsPrefix outcome.dialogue unlimited.dialogue }
+    ensures set_ends { (files : List (List ℕ)) (limits : Limits) (answers : Answers) (outcome : Outcome Ending) → LimitedRun files limits answers outcome → is_want outcome.ending ≡ false → Run files limits.ticks answers outcome }
 {}

@@ -1,14 +1,14 @@
 -- Showing a list of bytes, byte by byte, and what a console reads.
-use Rattle.std.proofs.Common.{◌≡◌, ℕ, ℤ, pos, negsuc, ◌+◌, ◌%◌, ◌<◌, ◌≤◌, List, [], ◌∷◌, ◌++◌, length, take, drop, get_or, Option, Some, None, refl, ap, sym, ◌∙◌, add-one, take-append-drop, arith}
+use Rattle.std.proofs.Common.{◌≡◌, ℕ, pos, negsuc, ◌+◌, ◌%◌, ◌<◌, ◌≤◌, List, [], ◌∷◌, ◌++◌, length, take, drop, get_or, Option, Some, None, refl, ap, sym, subst, ◌∙◌, add-one, take-append-drop, arith}
 use Rattle.std.specs.Prelude.{IsNone, IsSome, true, false}
 use Rattle.std.proofs.lemmas.Bool.{false≢true}
 use Rattle.std.proofs.lemmas.List.{take_more, map_push, map-append}
 use Rattle.std.proofs.Math.Seq.{drop-cons}
+use Rattle.dialogue.specs.Answers.{Answers, answers_of, MayGive}
 use Rattle.dialogue.specs.Dialogue.{Get, Put, putting}
-use Rattle.dialogue.specs.Natives.{after_byte}
 use Rattle.host_face.specs.Faults.{Rose}
 use Rattle.host_face.specs.Console.{Takes}
-use Rattle.host_face.specs.Talk.{Talked, BrokeOff, without_first}
+use Rattle.host_face.specs.Talk.{Talked, BrokeOff}
 use Rattle.host_face.proofs.TalkLemmas.{with_bytes-nil}
 use Rattle.mote_core.specs.Acts.{IsRead}
 
@@ -26,26 +26,34 @@ putting-parts bytes i lt =
 same_some : {A : Type 0} {x y : A} → Some x ≡ Some y → x ≡ y
 same_some e = cc
 
-after_one : (bytes : List ℕ) → after_byte bytes ≡ drop 1 bytes
-after_one [] = refl
-after_one (byte ∷ bytes) = refl
-
--- a byte that a console gave
+-- a byte that a console gave: where it told its input, the byte was the first of it
 pub read-byte : (before after : Option (List ℕ)) (byte : ℕ) → byte < 256 → Takes (Some byte) before after → IsRead before after (pos byte)
 read-byte before None byte fits takes =
-    record { input = byte ∷ []; tells = rw takes refl; value = ap pos (sym (mod_below byte 256 fits)); now = rw takes refl }
+    record {
+      gave = λ others may. record { answers = Some byte ∷ others; may = rw takes tt; value = ap pos (sym (mod_below byte 256 fits)); others_are = refl };
+      rest = rw takes refl;
+    }
 read-byte before (Some rest) byte fits takes =
-    record { input = byte ∷ rest; tells = rw takes refl; value = ap pos (sym (mod_below byte 256 fits)); now = rw takes refl }
+    record {
+      gave = λ others may. record { answers = Some byte ∷ others; may = rw takes (ap (λ (a : Answers). Some byte ∷ a) may); value = ap pos (sym (mod_below byte 256 fits)); others_are = refl };
+      rest = rw takes refl;
+    }
 
+-- it gave the end: where it told its input, nothing was left
 pub read-end : (before after : Option (List ℕ)) → Takes None before after → IsRead before after (negsuc 0)
-read-end before after takes =
-    record { input = []; tells = takes.0; value = refl; now = takes.1 ∙ takes.0 }
-
--- a byte was asked for: the input is without it
-pub read-left : (before after : Option (List ℕ)) (number : ℤ) → IsRead before after number → after ≡ without_first 1 before
-read-left None after number read = read.now
-read-left (Some bytes) after number read =
-    read.now ∙ ap (λ (xs : List ℕ). Some (after_byte xs)) (sym (same_some read.tells)) ∙ ap (λ (xs : List ℕ). Some xs) (after_one bytes)
+read-end None after takes =
+    record {
+      gave = λ others may. record { answers = None ∷ others; may = tt; value = refl; others_are = refl };
+      rest = takes.1;
+    }
+read-end (Some bytes) after takes =
+    record {
+      gave = λ others may. record { answers = []; may = ap answers_of (sym (same_some takes.0)); value = refl; others_are = told others may };
+      rest = takes.1 ∙ takes.0 ∙ ap (λ (xs : List ℕ). Some (drop 1 xs)) (sym (same_some takes.0));
+    }
+  where
+    told : (others : Answers) → MayGive after others → others ≡ []
+    told others may = subst (λ (o : Option (List ℕ)). MayGive o others) (takes.1 ∙ takes.0) may
 
 pub untold-fails : (room : Option ℕ) → (IsSome room → false ≡ true) → IsNone room
 untold-fails None fails = refl

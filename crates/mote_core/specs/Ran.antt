@@ -1,6 +1,7 @@
 -- What a run of a mote leaves on a console: each word takes the console's meanings, then the console
 -- before and after.
-use Rattle.std.specs.Prelude.{◌≡◌, ℕ, List, Option, Some, IfSome}
+use Rattle.std.specs.Prelude.{◌≡◌, ℕ, List, Option, Some, None, IfSome}
+use Rattle.dialogue.specs.Answers.{Answers, answers_of, TellsLeft}
 use Rattle.dialogue.specs.Outcome.{Outcome}
 use Rattle.dialogue.specs.Dialogue.{gets}
 use Rattle.host_face.specs.Talk.{Talked, BrokeOff, without_first}
@@ -10,9 +11,11 @@ use Rattle.mote_model.specs.Machine.{LimitedSo}
 use Rattle.mote_core.specs.Ready.{Ready, limits_of}
 use Rattle.mote_core.specs.Good.{IsStepEnding}
 
--- where the input is told, this is the limited run of the image on it
+-- where the input is told, this is the limited run of the image on it; else it is a limited run of the image
+-- in which each get gives any byte or the end
 abbrev pub MayEnd : Ready → ℕ → Option (List ℕ) → Outcome Ending → Type 0
-MayEnd ready ticks left outcome = IfSome left (λ input. LimitedSo ready.image (limits_of ready ticks) input outcome)
+MayEnd ready ticks (Some input) outcome = LimitedSo ready.image (limits_of ready ticks) (answers_of input) outcome
+MayEnd ready ticks None outcome = (answers : Answers) × LimitedSo ready.image (limits_of ready ticks) answers outcome
 
 -- the endings so far: no object is made yet, and what is thrown is an ArithmeticException, of id 4
 abbrev pub IsEndingSoFar : Ending → Type 0
@@ -31,7 +34,7 @@ pub record Ended {C : Type 0} (left shown noted : C → Option (List ℕ)) (faul
   pub may : MayEnd ready ticks (left old) outcome
   pub same : ending ≡ outcome.ending
   pub talked : Talked shown noted faults room old new outcome.dialogue
-  pub same_left : IfSome (left old) (λ _. left new ≡ Some outcome.left)
+  pub same_left : IfSome (left old) (λ _. TellsLeft (left new) outcome.left)
   pub rest : left new ≡ without_first (gets outcome.dialogue) (left old)
 
 -- the console failed: a proper prefix of the dialogue of the run was said, and unless the next item asks

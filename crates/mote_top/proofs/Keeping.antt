@@ -1,8 +1,10 @@
 -- A call keeps its promises, by its reply.
 use Rattle.std.proofs.Common.{◌≡◌, ℕ, ◌≤◌, List, ◌++◌, ◌⊎◌, Option, Some, None, inl, inr, refl, sym, ap, subst, ◌∙◌}
-use Rattle.std.specs.Prelude.{◌↔◌, IfSome, option_map}
+use Rattle.std.specs.Prelude.{◌↔◌, option_map}
 use Rattle.std.specs.FinMap.{insert}
 use Rattle.std.proofs.lemmas.List.{append-nil}
+use Rattle.dialogue.specs.Answers as gets
+use Rattle.dialogue.specs.Answers.{answers_of, bytes_of, MayGive}
 use Rattle.dialogue.specs.Dialogue.{Item, Get, Put, Note, puts, notes, noting, puts-append, notes-append, puts-noting, notes-noting}
 use Rattle.dialogue.specs.Limits.{Limits}
 use Rattle.dialogue.specs.Outcome.{Outcome}
@@ -24,9 +26,9 @@ use Rattle.mote_top.specs.Words.{FaultsAt}
 use Rattle.mote_top.specs.Status.{note_of}
 use Rattle.mote_top.specs.Endings.{typed_status, split_status}
 use Rattle.mote_top.specs.Call.{Spoken, Call, After}
-use Rattle.mote_top.specs.Reply.{Reply, RefusesSet, EndsAs, SetReplies, IsInfusion, ImageEndsAs, InfusionReplies, IsRunEnd, StoreReplies, MayReply, all_said}
+use Rattle.mote_top.specs.Reply.{Reply, RefusesSet, EndsAs, SetReplies, IsInfusion, ImageEndsAs, InfusionReplies, IsRunEnd, StoreReplies, MayReply, RunsInfusion, all_said, left_of}
 use Rattle.mote_top.specs.Answer.{Extent, Whole, Part, Nothing, extent, Talked, Replied, AnswersTo, Answers}
-use Rattle.mote_top.specs.Headline.{RunsOn, InfusesTo, RunsSet, LoadsSet, IsAnswer, IsReplied, Shows, ShowsImage, RanInfusion, SaysNoInfusion, StoresInfusion, HasCause, KeepsShelf}
+use Rattle.mote_top.specs.Headline.{RunsOn, InfusesTo, RunsSet, LoadsSet, IsAnswer, IsReplied, Shows, ShowsSome, ShowsImage, RanInfusion, SaysNoInfusion, StoresInfusion, HasCause, KeepsShelf}
 use Rattle.mote_top.specs.Promises.{Promises}
 use Rattle.mote_top.proofs.Answering.{whole_of}
 use Rattle.mote_top.proofs.Causes.{status_is, may_words, fault_reply, may_shelf, go_on, run_on, infuse_on}
@@ -74,7 +76,7 @@ module _ (call : Call) (after : After) (limits : Limits) where
   -- ---- what is shown
 
   -- all of a reply was said: the puts and notes of its dialogue, and the line of its status
-  shows_all : (dialogue : List Item) (rest : List ℕ) (status : Status) → after.status ≡ status → Talked call.console after.console (dialogue ++ noting (note_of limits status)) → after.console.left ≡ Some rest → Shows call after limits dialogue rest status
+  shows_all : (dialogue : List Item) (rest : Option (List ℕ)) (status : Status) → after.status ≡ status → Talked call.console after.console (dialogue ++ noting (note_of limits status)) → after.console.left ≡ rest → Shows call after limits dialogue rest status
   shows_all dialogue rest status is talked left =
       let line = note_of limits status in
       record {
@@ -84,36 +86,58 @@ module _ (call : Call) (after : After) (limits : Limits) where
         input_left = left;
       }
 
-  reply_shows : (r : IsSaid after.status) (status : Status) (dialogue : List Item) (rest : List ℕ) → r.reply ≡ record { status = status; dialogue = dialogue; left = Some rest } → Shows call after limits dialogue rest status
+  reply_shows : (r : IsSaid after.status) (status : Status) (dialogue : List Item) (rest : Option (List ℕ)) → r.reply ≡ record { status = status; dialogue = dialogue; left = rest } → Shows call after limits dialogue rest status
   reply_shows r status dialogue rest is =
       shows_all dialogue rest status (r.same ∙ status_is is) (subst (Talked call.console after.console) (ap (all_said limits) is) r.talked) (r.same_left ∙ ap (λ (reply : Reply). reply.left) is)
 
-  -- the limited run that a reply tells is the one that is given
-  ends_shown : (r : IsSaid after.status) (files : List (List ℕ)) (input : List ℕ) (outcome : Outcome typed.Ending) → LimitedRun files limits input outcome → EndsAs files limits input r.reply → Shows call after limits outcome.dialogue outcome.left (typed_status outcome.ending)
-  ends_shown r files input outcome run ends =
-      let one : ends.outcome ≡ outcome = limited_run_is_one files limits input ends.outcome outcome ends.ends run in
-      let here = reply_shows r (typed_status ends.outcome.ending) ends.outcome.dialogue ends.outcome.left ends.is in
-      subst (λ (o : Outcome typed.Ending). Shows call after limits o.dialogue o.left (typed_status o.ending)) one here
+  -- where the input is told, the limited run that a reply tells is the one that is given
+  ends_shown : (r : IsSaid after.status) (files : List (List ℕ)) (input : List ℕ) (outcome : Outcome typed.Ending) → call.console.left ≡ Some input → LimitedRun files limits (answers_of input) outcome
+      → (answers : gets.Answers) → MayGive call.console.left answers → EndsAs files limits call.console.left answers r.reply → Shows call after limits outcome.dialogue (Some (bytes_of outcome.left)) (typed_status outcome.ending)
+  ends_shown r files input outcome tells run answers may ends =
+      let told : answers ≡ answers_of input = subst (λ (l : Option (List ℕ)). MayGive l answers) tells may in
+      let one : ends.outcome ≡ outcome = limited_run_is_one files limits (answers_of input) ends.outcome outcome (subst (λ (a : gets.Answers). LimitedRun files limits a ends.outcome) told ends.ends) run in
+      let here = reply_shows r (typed_status ends.outcome.ending) ends.outcome.dialogue (left_of call.console.left ends.outcome.left) ends.is in
+      let left_told = subst (λ (l : Option (List ℕ)). Shows call after limits ends.outcome.dialogue (left_of l ends.outcome.left) (typed_status ends.outcome.ending)) tells here in
+      subst (λ (o : Outcome typed.Ending). Shows call after limits o.dialogue (Some (bytes_of o.left)) (typed_status o.ending)) one left_told
 
-  told_at : (left : Option (List ℕ)) (input : List ℕ) (P : List ℕ → Type 0) → left ≡ Some input → IfSome left P → P input
-  told_at left input P tells told = let here : IfSome (Some input) P = subst (λ (l : Option (List ℕ)). IfSome l P) tells told in here
-
-  set_shown : (r : IsSaid after.status) (files : List (List ℕ)) (input : List ℕ) (outcome : Outcome typed.Ending) → call.console.left ≡ Some input → LimitedRun files limits input outcome → SetReplies files limits call.console.left r.reply → Shows call after limits outcome.dialogue outcome.left (typed_status outcome.ending)
-  set_shown r files input outcome tells run (inl runs) = ends_shown r files input outcome run (told_at call.console.left input (λ input. EndsAs files limits input r.reply) tells runs.told)
+  set_shown : (r : IsSaid after.status) (files : List (List ℕ)) (input : List ℕ) (outcome : Outcome typed.Ending) → call.console.left ≡ Some input → LimitedRun files limits (answers_of input) outcome → SetReplies files limits call.console.left r.reply
+      → Shows call after limits outcome.dialogue (Some (bytes_of outcome.left)) (typed_status outcome.ending)
+  set_shown r files input outcome tells run (inl runs) = ends_shown r files input outcome tells run runs.answers runs.may runs.ends
   set_shown r files input outcome tells run (inr refuses) = absurd (accepted_or_refused files refuses.refusal run.accepted refuses.refused)
+
+  -- where it is not, it is a run on some answers
+  ends_some : (r : IsSaid after.status) (files : List (List ℕ)) → call.console.left ≡ None → (answers : gets.Answers) → EndsAs files limits call.console.left answers r.reply → ShowsSome call after files limits
+  ends_some r files untold answers ends =
+      let here = reply_shows r (typed_status ends.outcome.ending) ends.outcome.dialogue (left_of call.console.left ends.outcome.left) ends.is in
+      record {
+        answers = answers;
+        outcome = ends.outcome;
+        ends = ends.ends;
+        shows = subst (λ (l : Option (List ℕ)). Shows call after limits ends.outcome.dialogue (left_of l ends.outcome.left) (typed_status ends.outcome.ending)) untold here;
+      }
+
+  set_some : (r : IsSaid after.status) (files : List (List ℕ)) → call.console.left ≡ None → Accepted files → SetReplies files limits call.console.left r.reply → ShowsSome call after files limits
+  set_some r files untold accepted (inl runs) = ends_some r files untold runs.answers runs.ends
+  set_some r files untold accepted (inr refuses) = absurd (accepted_or_refused files refuses.refusal accepted refuses.refused)
 
   -- the infusion of an accepted set is one
   own_infusion : (files : List (List ℕ)) (image : Image) → IsImageOf files image → IsInfusion (encoding image) image
   own_infusion files image is = record { encoded = (set_image files image is, refl); checked = set_checked files image is; built = set_built files image is }
 
-  infusion_shown : (r : IsSaid after.status) (files : List (List ℕ)) (input : List ℕ) (outcome : Outcome typed.Ending) (image : Image) → IsImageOf files image → call.console.left ≡ Some input → LimitedRun files limits input outcome → InfusionReplies (encoding image) limits call.console.left r.reply
-      → Shows call after limits outcome.dialogue outcome.left (typed_status outcome.ending)
-  infusion_shown r files input outcome image is tells run (inl runs) =
-      let own = own_infusion files image is in
-      let same : runs.image ≡ image = one_image (encoding image) runs.image image runs.infusion.encoded own.encoded in
-      let ends : ImageEndsAs runs.image limits input r.reply = told_at call.console.left input (λ input. ImageEndsAs runs.image limits input r.reply) tells runs.runs.told in
-      ends_shown r files input outcome run (image_ends files image is limits input r.reply (subst (λ (i : Image). ImageEndsAs i limits input r.reply) same ends))
+  -- what ran is the image of the set
+  infusion_ends : (r : IsSaid after.status) (files : List (List ℕ)) (image : Image) → IsImageOf files image → (runs : RunsInfusion (encoding image) limits call.console.left r.reply) → EndsAs files limits call.console.left runs.runs.answers r.reply
+  infusion_ends r files image is runs =
+      let same : runs.image ≡ image = one_image (encoding image) runs.image image runs.infusion.encoded (own_infusion files image is).encoded in
+      image_ends files image is limits call.console.left runs.runs.answers r.reply (subst (λ (i : Image). ImageEndsAs i limits call.console.left runs.runs.answers r.reply) same runs.runs.ends)
+
+  infusion_shown : (r : IsSaid after.status) (files : List (List ℕ)) (input : List ℕ) (outcome : Outcome typed.Ending) (image : Image) → IsImageOf files image → call.console.left ≡ Some input → LimitedRun files limits (answers_of input) outcome → InfusionReplies (encoding image) limits call.console.left r.reply
+      → Shows call after limits outcome.dialogue (Some (bytes_of outcome.left)) (typed_status outcome.ending)
+  infusion_shown r files input outcome image is tells run (inl runs) = ends_shown r files input outcome tells run runs.runs.answers runs.runs.may (infusion_ends r files image is runs)
   infusion_shown r files input outcome image is tells run (inr none) = absurd (infusion_is_one (encoding image) image (own_infusion files image is) none.refusal none.none)
+
+  infusion_some : (r : IsSaid after.status) (files : List (List ℕ)) (image : Image) → IsImageOf files image → call.console.left ≡ None → InfusionReplies (encoding image) limits call.console.left r.reply → ShowsSome call after files limits
+  infusion_some r files image is untold (inl runs) = ends_some r files untold runs.runs.answers (infusion_ends r files image is runs)
+  infusion_some r files image is untold (inr none) = absurd (infusion_is_one (encoding image) image (own_infusion files image is) none.refusal none.none)
 
   -- ---- refusals and what is stored
 
@@ -160,12 +184,15 @@ module _ (call : Call) (after : After) (limits : Limits) where
 
   infusion_as : (r : IsSaid after.status) (bytes : List ℕ) → InfusionReplies bytes limits call.console.left r.reply → SaysNoInfusion bytes after.status ⊎ RanInfusion call after bytes limits
   infusion_as r bytes (inr none) = inl (record { refusal = none.refusal; status_is = r.same ∙ status_is none.is; none = none.none })
-  infusion_as r bytes (inl runs) = inr (record { image = runs.image; infusion = runs.infusion; shows = shows })
-    where
-      shows : (input : List ℕ) → call.console.left ≡ Some input → ShowsImage call after limits runs.image input
-      shows input tells =
-          let ends : ImageEndsAs runs.image limits input r.reply = told_at call.console.left input (λ input. ImageEndsAs runs.image limits input r.reply) tells runs.runs.told in
-          record { outcome = ends.outcome; ends = ends.ends; shows = reply_shows r (split_status runs.image ends.outcome.ending) ends.outcome.dialogue ends.outcome.left ends.is }
+  infusion_as r bytes (inl runs) =
+      let ends = runs.runs.ends in
+      inr (record {
+        image = runs.image;
+        infusion = runs.infusion;
+        answers = runs.runs.answers;
+        may = runs.runs.may;
+        shows = record { outcome = ends.outcome; ends = ends.ends; shows = reply_shows r (split_status runs.image ends.outcome.ending) ends.outcome.dialogue (left_of call.console.left ends.outcome.left) ends.is };
+      })
 
   -- ---- causes
 
@@ -185,17 +212,27 @@ module _ (call : Call) (after : After) (replied : IsReplied call after) where
   reply_answer answer = subst IsAnswer (answer_said answer).same answer
 
   headline : (files : List (List ℕ)) (limits : Limits) (input : List ℕ) (outcome : Outcome typed.Ending) → RunsSet call files limits → call.console.left ≡ Some input
-      → LimitedRun files limits input outcome → IsAnswer after.status → Shows call after limits outcome.dialogue outcome.left (typed_status outcome.ending)
+      → LimitedRun files limits (answers_of input) outcome → IsAnswer after.status → Shows call after limits outcome.dialogue (Some (bytes_of outcome.left)) (typed_status outcome.ending)
   headline files limits input outcome (inl goes) tells run answer =
       let r = answer_said answer in
       let on = go_on call after.shelf replied.limits r.reply files limits goes (reply_answer answer) r.may in
-      let here : LimitedRun files replied.limits input outcome = subst (λ (l : Limits). LimitedRun files l input outcome) (sym on.0) run in
-      subst (λ (l : Limits). Shows call after l outcome.dialogue outcome.left (typed_status outcome.ending)) on.0 (set_shown call after replied.limits r files input outcome tells here on.1)
+      let here : LimitedRun files replied.limits (answers_of input) outcome = subst (λ (l : Limits). LimitedRun files l (answers_of input) outcome) (sym on.0) run in
+      subst (λ (l : Limits). Shows call after l outcome.dialogue (Some (bytes_of outcome.left)) (typed_status outcome.ending)) on.0 (set_shown call after replied.limits r files input outcome tells here on.1)
   headline files limits input outcome (inr given) tells run answer =
       let r = answer_said answer in
       let on = run_on call after.shelf replied.limits r.reply (encoding given.image) limits given.runs (reply_answer answer) r.may in
-      let here : LimitedRun files replied.limits input outcome = subst (λ (l : Limits). LimitedRun files l input outcome) (sym on.0) run in
-      subst (λ (l : Limits). Shows call after l outcome.dialogue outcome.left (typed_status outcome.ending)) on.0 (infusion_shown call after replied.limits r files input outcome given.image given.is_image tells here on.1)
+      let here : LimitedRun files replied.limits (answers_of input) outcome = subst (λ (l : Limits). LimitedRun files l (answers_of input) outcome) (sym on.0) run in
+      subst (λ (l : Limits). Shows call after l outcome.dialogue (Some (bytes_of outcome.left)) (typed_status outcome.ending)) on.0 (infusion_shown call after replied.limits r files input outcome given.image given.is_image tells here on.1)
+
+  untold : (files : List (List ℕ)) (limits : Limits) → RunsSet call files limits → call.console.left ≡ None → Accepted files → IsAnswer after.status → ShowsSome call after files limits
+  untold files limits (inl goes) none accepted answer =
+      let r = answer_said answer in
+      let on = go_on call after.shelf replied.limits r.reply files limits goes (reply_answer answer) r.may in
+      subst (λ (l : Limits). ShowsSome call after files l) on.0 (set_some call after replied.limits r files none accepted on.1)
+  untold files limits (inr given) none accepted answer =
+      let r = answer_said answer in
+      let on = run_on call after.shelf replied.limits r.reply (encoding given.image) limits given.runs (reply_answer answer) r.may in
+      subst (λ (l : Limits). ShowsSome call after files l) on.0 (infusion_some call after replied.limits r files given.image given.is_image none on.1)
 
   refused : (files : List (List ℕ)) (refusal : Refusal) → LoadsSet call files → IsAnswer after.status → (after.status ≡ Refused refusal) ↔ IsRefused files refusal
   refused files refusal (inl (limits, goes)) answer =
@@ -229,6 +266,7 @@ module _ (call : Call) (after : After) (replied : IsReplied call after) where
       record {
         replied = replied;
         headline = headline;
+        untold = untold;
         refused = refused;
         stored = stored;
         infusion = infusion;

@@ -1,6 +1,7 @@
 -- What runs of images and refusals are as replies of sets and of infusions.
 use Rattle.std.proofs.Common.{◌≡◌, ℕ, List, Option, Some, None, ◌⊎◌, inl, inr, refl, sym, ap, subst, ◌∙◌}
-use Rattle.std.specs.Prelude.{IfSome, Result, Ok, Err}
+use Rattle.std.specs.Prelude.{Result, Ok, Err}
+use Rattle.dialogue.specs.Answers.{Answers}
 use Rattle.dialogue.specs.Dialogue.{Item}
 use Rattle.dialogue.specs.Limits.{Limits}
 use Rattle.dialogue.specs.Outcome.{Outcome}
@@ -33,7 +34,7 @@ use Rattle.mote_top.specs.declared.status.ImageRefusal.{ImageRefusal}
 use Rattle.mote_top.specs.declared.status.Status.{Status}
 use Rattle.mote_top.specs.declared.status.Status.TheVariants.{Uncaught, Refused, Infusion, HeapWanted, StackWanted, Memory}
 use Rattle.mote_top.specs.Endings.{typed_status, split_status, form_refusal, check_refusal}
-use Rattle.mote_top.specs.Reply.{Reply, EndsAs, SetReplies, IsNoInfusion, IsInfusion, ImageEndsAs, RunsImage, InfusionReplies}
+use Rattle.mote_top.specs.Reply.{Reply, EndsAs, SetReplies, IsNoInfusion, IsInfusion, ImageEndsAs, RunsImage, InfusionReplies, left_of}
 use Rattle.mote_top.specs.Answer.{IsQuiet}
 use Rattle.mote_top.specs.Storing.{IsRefusedStatus}
 
@@ -55,28 +56,23 @@ same_status image (typed.StackWanted need used) (split.StackWanted other_need ot
 same_status image _ _ same = absurd same
 
 -- replies that show the same are equal
-abbrev made : Status → List Item → List ℕ → Reply
-made status dialogue left = record { status = status; dialogue = dialogue; left = Some left }
+abbrev made : Status → List Item → Option (List ℕ) → Reply
+made status dialogue left = record { status = status; dialogue = dialogue; left = left }
 
-same_reply : (s t : Status) (d e : List Item) (l m : List ℕ) → s ≡ t → d ≡ e → l ≡ m → made s d l ≡ made t e m
+same_reply : (s t : Status) (d e : List Item) (l m : Option (List ℕ)) → s ≡ t → d ≡ e → l ≡ m → made s d l ≡ made t e m
 same_reply s t d e l m p q r = cc
 
 -- a run of the image of a set ends as the run of the set
-pub image_ends : (files : List (List ℕ)) (image : Image) → IsImageOf files image → (limits : Limits) (input : List ℕ) (reply : Reply) → ImageEndsAs image limits input reply → EndsAs files limits input reply
-image_ends files image is limits input reply run =
-    let both : RunsAlike files image limits input = runs_alike files image is limits input in
-    let one : run.outcome ≡ both.other = one_ending (machine image limits) (start_of image limits input) run.outcome both.other run.ends both.ends_other in
+pub image_ends : (files : List (List ℕ)) (image : Image) → IsImageOf files image → (limits : Limits) (left : Option (List ℕ)) (answers : Answers) (reply : Reply) → ImageEndsAs image limits left answers reply → EndsAs files limits left answers reply
+image_ends files image is limits left answers reply run =
+    let both : RunsAlike files image limits answers = runs_alike files image is limits answers in
+    let one : run.outcome ≡ both.other = one_ending (machine image limits) (start_of image limits answers) run.outcome both.other run.ends both.ends_other in
     let status : split_status image run.outcome.ending ≡ typed_status both.outcome.ending = ap (λ (o : Outcome Ending). split_status image o.ending) one ∙ same_status image both.outcome.ending both.other.ending both.same.ending in
     record {
       outcome = both.outcome;
       ends = both.ends;
-      is = run.is ∙ same_reply (split_status image run.outcome.ending) (typed_status both.outcome.ending) run.outcome.dialogue both.outcome.dialogue run.outcome.left both.outcome.left status (ap (λ (o : Outcome Ending). o.dialogue) one ∙ sym both.same.dialogue) (ap (λ (o : Outcome Ending). o.left) one ∙ sym both.same.left);
+      is = run.is ∙ same_reply (split_status image run.outcome.ending) (typed_status both.outcome.ending) run.outcome.dialogue both.outcome.dialogue (left_of left run.outcome.left) (left_of left both.outcome.left) status (ap (λ (o : Outcome Ending). o.dialogue) one ∙ sym both.same.dialogue) (ap (left_of left) (ap (λ (o : Outcome Ending). o.left) one ∙ sym both.same.left));
     }
-
--- where the input is told, what is said of it holds
-on_input : (left : Option (List ℕ)) (P Q : List ℕ → Type 0) → ((input : List ℕ) → P input → Q input) → IfSome left P → IfSome left Q
-on_input None P Q f on = tt
-on_input (Some input) P Q f on = f input on
 
 -- a run of the image answers for the set
 pub set_runs : (files : List (List ℕ)) (image : Image) → IsImageOf files image → (limits : Limits) (left : Option (List ℕ)) (reply : Reply) → RunsImage image limits left reply → SetReplies files limits left reply
@@ -84,7 +80,9 @@ set_runs files image is limits left reply run =
     inl (record {
       accepted = is.accepted;
       status = run.status;
-      told = on_input left (λ input. ImageEndsAs image limits input reply) (λ input. EndsAs files limits input reply) (λ input ends. image_ends files image is limits input reply ends) run.told;
+      answers = run.answers;
+      may = run.may;
+      ends = image_ends files image is limits left run.answers reply run.ends;
     })
 
 -- a run of the image answers for its infusion

@@ -1,6 +1,8 @@
 -- The words of what a call promises.
-use Rattle.std.specs.Prelude.{◌≡◌, ℕ, ◌≤◌, ◌⊎◌, List, [], ◌∷◌, ◌++◌, Option, Some, slice_get}
+use Rattle.std.specs.Prelude.{◌≡◌, ℕ, ◌≤◌, ◌⊎◌, List, [], ◌∷◌, ◌++◌, Option, Some, None, slice_get}
 use Rattle.std.specs.FinMap.{get, insert}
+use Rattle.dialogue.specs.Answers as gets
+use Rattle.dialogue.specs.Answers.{MayGive}
 use Rattle.dialogue.specs.Dialogue.{Item, puts, notes}
 use Rattle.dialogue.specs.Limits.{Limits}
 use Rattle.dialogue.specs.Outcome.{Outcome}
@@ -12,17 +14,19 @@ use Rattle.image_form.specs.declared.record.Image.{Image}
 use Rattle.image_form.specs.Format.{encoding}
 use Rattle.mote_model.specs.declared.ending.Ending.{Ending}
 use Rattle.mote_model.specs.Machine.{LimitedSo}
+use Rattle.jvm_model.specs.Machine as typed
 use Rattle.jvm_model.specs.SetImage.{IsImageOf}
+use Rattle.jvm_model.specs.SetRun.{LimitedRun}
 use Rattle.jvm_model.specs.Verdict.{Accepted}
 use Rattle.mote_top.specs.declared.status.ImageRefusal.{ImageRefusal}
 use Rattle.mote_top.specs.declared.status.Status.{Status}
 use Rattle.mote_top.specs.declared.status.Status.TheVariants.{Done, Infusion, ConsoleFault, ShelfFault, Memory}
 use Rattle.mote_top.specs.Words.{IsName, infuse_of, run_of, go_of, limits_of, FitsOption}
 use Rattle.mote_top.specs.Status.{note_of}
-use Rattle.mote_top.specs.Endings.{split_status}
+use Rattle.mote_top.specs.Endings.{typed_status, split_status}
 use Rattle.mote_top.specs.Call.{Shelved, Call, After}
 use Rattle.mote_top.specs.Answer.{Answers, Untouched}
-use Rattle.mote_top.specs.Reply.{HasAt, IsNoInfusion, IsInfusion, Loads, MayReply, all_said}
+use Rattle.mote_top.specs.Reply.{HasAt, IsNoInfusion, IsInfusion, Loads, MayReply, all_said, left_of}
 
 -- ---- what a call is
 
@@ -93,24 +97,34 @@ pub record IsReplied (call : Call) (after : After) : Type 0 where
   pub limits : Limits
   pub answers : Answers (all_said limits) (MayReply call after.shelf limits) call.console after.console after.status
 
--- a run with this dialogue, which left this input and ended with this status, is what is told
-pub record Shows (call : Call) (after : After) (limits : Limits) (dialogue : List Item) (rest : List ℕ) (status : Status) : Type 0 where
+-- a run with this dialogue, which left this input, where that is told, and ended with this status, is what is told
+pub record Shows (call : Call) (after : After) (limits : Limits) (dialogue : List Item) (rest : Option (List ℕ)) (status : Status) : Type 0 where
   pub status_is : after.status ≡ status
   pub puts_shown : after.console.shown ≡ with_bytes (puts dialogue) call.console.shown
   pub notes_noted : after.console.noted ≡ with_bytes (notes dialogue ++ note_of limits status) call.console.noted
-  pub input_left : after.console.left ≡ Some rest
+  pub input_left : after.console.left ≡ rest
+
+-- the limited run of the set on some answers to its gets is what is told
+pub record ShowsSome (call : Call) (after : After) (files : List (List ℕ)) (limits : Limits) : Type 0 where
+  pub answers : gets.Answers
+  pub outcome : Outcome typed.Ending
+  pub ends : LimitedRun files limits answers outcome
+  pub shows : Shows call after limits outcome.dialogue None (typed_status outcome.ending)
 
 -- the limited run of the image on the split machine ends, and is what is told
-pub record ShowsImage (call : Call) (after : After) (limits : Limits) (image : Image) (input : List ℕ) : Type 0 where
+pub record ShowsImage (call : Call) (after : After) (limits : Limits) (image : Image) (answers : gets.Answers) : Type 0 where
   pub outcome : Outcome Ending
-  pub ends : LimitedSo image limits input outcome
-  pub shows : Shows call after limits outcome.dialogue outcome.left (split_status image outcome.ending)
+  pub ends : LimitedSo image limits answers outcome
+  pub shows : Shows call after limits outcome.dialogue (left_of call.console.left outcome.left) (split_status image outcome.ending)
 
--- the bytes are the encoding of a checked image, and where the input is told, it ran so
+-- the bytes are the encoding of a checked image, which ran: on its input where that is told, else each get gave
+-- any byte or the end
 pub record RanInfusion (call : Call) (after : After) (bytes : List ℕ) (limits : Limits) : Type 0 where
   pub image : Image
   pub infusion : IsInfusion bytes image
-  pub shows : (input : List ℕ) → call.console.left ≡ Some input → ShowsImage call after limits image input
+  pub answers : gets.Answers
+  pub may : MayGive call.console.left answers
+  pub shows : ShowsImage call after limits image answers
 
 -- the status says why the bytes are no infusion
 pub record SaysNoInfusion (bytes : List ℕ) (status : Status) : Type 0 where

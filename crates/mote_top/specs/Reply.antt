@@ -1,6 +1,7 @@
 -- What a call may reply, as a relation of the call, what the shelf keeps after it, and what a run may use.
 use Rattle.std.specs.Prelude.{◌≡◌, ◌⊎◌, ℕ, List, [], ◌∷◌, ◌++◌, Option, Some, option_map, IfSome}
 use Rattle.std.specs.FinMap.{get, insert}
+use Rattle.dialogue.specs.Answers.{Answers, bytes_of, MayGive}
 use Rattle.dialogue.specs.Dialogue.{Item, noting}
 use Rattle.dialogue.specs.Limits.{Limits}
 use Rattle.dialogue.specs.Outcome.{Outcome}
@@ -66,17 +67,23 @@ pub record RefusesSet (files : List (List ℕ)) (left : Option (List ℕ)) (repl
   pub refused : IsRefused files refusal
   pub is : reply ≡ quiet (Refused refusal) left
 
--- the limited run of the set ends so on this input
-pub record EndsAs (files : List (List ℕ)) (limits : Limits) (input : List ℕ) (reply : Reply) : Type 0 where
-  pub outcome : Outcome typed.Ending
-  pub ends : LimitedRun files limits input outcome
-  pub is : reply ≡ record { status = typed_status outcome.ending; dialogue = outcome.dialogue; left = Some outcome.left }
+-- what a run leaves, where the input was told
+abbrev pub left_of : Option (List ℕ) → Answers → Option (List ℕ)
+left_of left answers = option_map (λ _. bytes_of answers) left
 
--- the set is accepted, and runs: where the input is told, on it
+-- the limited run of the set on these answers ends so
+pub record EndsAs (files : List (List ℕ)) (limits : Limits) (left : Option (List ℕ)) (answers : Answers) (reply : Reply) : Type 0 where
+  pub outcome : Outcome typed.Ending
+  pub ends : LimitedRun files limits answers outcome
+  pub is : reply ≡ record { status = typed_status outcome.ending; dialogue = outcome.dialogue; left = left_of left outcome.left }
+
+-- the set is accepted, and runs: on its input where that is told, else each get gives any byte or the end
 pub record RunsSet (files : List (List ℕ)) (limits : Limits) (left : Option (List ℕ)) (reply : Reply) : Type 0 where
   pub accepted : Accepted files
   pub status : IsRunEnd reply.status
-  pub told : IfSome left (λ input. EndsAs files limits input reply)
+  pub answers : Answers
+  pub may : MayGive left answers
+  pub ends : EndsAs files limits left answers reply
 
 -- what a set answers
 abbrev pub SetReplies : List (List ℕ) → Limits → Option (List ℕ) → Reply → Type 0
@@ -111,16 +118,18 @@ pub record RefusesInfusion (bytes : List ℕ) (left : Option (List ℕ)) (reply 
   pub none : IsNoInfusion bytes refusal
   pub is : reply ≡ quiet (Infusion refusal) left
 
--- the limited run of the image ends so on this input
-pub record ImageEndsAs (image : Image) (limits : Limits) (input : List ℕ) (reply : Reply) : Type 0 where
+-- the limited run of the image on these answers ends so
+pub record ImageEndsAs (image : Image) (limits : Limits) (left : Option (List ℕ)) (answers : Answers) (reply : Reply) : Type 0 where
   pub outcome : Outcome Ending
-  pub ends : LimitedSo image limits input outcome
-  pub is : reply ≡ record { status = split_status image outcome.ending; dialogue = outcome.dialogue; left = Some outcome.left }
+  pub ends : LimitedSo image limits answers outcome
+  pub is : reply ≡ record { status = split_status image outcome.ending; dialogue = outcome.dialogue; left = left_of left outcome.left }
 
--- the image runs: where the input is told, on it
+-- the image runs: on its input where that is told, else each get gives any byte or the end
 pub record RunsImage (image : Image) (limits : Limits) (left : Option (List ℕ)) (reply : Reply) : Type 0 where
   pub status : IsRunEnd reply.status
-  pub told : IfSome left (λ input. ImageEndsAs image limits input reply)
+  pub answers : Answers
+  pub may : MayGive left answers
+  pub ends : ImageEndsAs image limits left answers reply
 
 pub record RunsInfusion (bytes : List ℕ) (limits : Limits) (left : Option (List ℕ)) (reply : Reply) : Type 0 where
   pub image : Image

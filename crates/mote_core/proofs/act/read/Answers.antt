@@ -24,3 +24,10 @@ returns-in-Some-clause-number g c =
     let fits : c.in-Some.byte < 256 = search rules in
     let value_fits : SFits w32 c.from.result = search rules in
     subst (IsRead before after) (sym (to_z-of_z w32 c.from.result value_fits ∙ c.from.ensures)) (read-byte before after c.in-Some.byte fits takes)
+
+pub returns-in-None-clause-number : goal.returns-in-None-clause-number
+returns-in-None-clause-number g c =
+    let C = g.C.Console in
+    let before = C.left c.args.console.now in
+    let after = C.left c.get.new.self in
+    read-end before after (subst (λ byte. Takes byte before after) c.in-None.is c.in_ok-byte.ensures.left)

@@ -12,7 +12,7 @@ use Rattle.mote_core.proofs.act.write_decimal.Goals as goal
 pub returns-then-not-tick-clause-acts : goal.returns-then-not-tick-clause-acts
 returns-then-not-tick-clause-acts g c =
     let C = g.C.Console in
-    acts-show-spent C.left C.shown C.noted C.faults C.room (Print c.args.number) (signed_decimal c.args.number) c.args.next (λ limits state frame locals operands. refl) _ _ c.args.console.now c.if-not-tick.ensures.tick
+    acts-show-spent C.left C.shown C.noted C.faults C.room (Print c.args.number) (signed_decimal c.args.number) c.args.next (λ limits state frame locals operands. refl) _ c.args.console.now c.if-not-tick.ensures.tick
 
 pub returns-in-Ok-clause-acts : goal.returns-in-Ok-clause-acts
 returns-in-Ok-clause-acts g c =

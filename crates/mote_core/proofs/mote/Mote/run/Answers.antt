@@ -76,7 +76,7 @@ returns-in-Err-clause-ran g c =
     let fits : main.body ≤ active.cells.room = omega (arith, c.if-from-need.false, c.from.ensures, c.from-need.ensures, stack_is, c.loop-self.invariant.room) in
     (ends-at C.left C.shown C.noted C.faults C.room ready (subst IsImage image_is c.image.ensures.image) (subst IsChecked image_is c.image.ensures.checked) (subst IsBuilt image_is c.image.ensures.built)
     c.args.ticks c.args.console.now main is_main c.as_slice-code.result.now c.as_slice-code.ensures c.loop-self.console _ c.loop-self.invariant.going
-    c.act.new.console _ c.execute-turn.new.cells.items c.decode_known-insn.result.0 c.decode_known-insn.result.1 active.cells.room c.execute-turn.result
+    c.act.new.console c.execute-turn.new.cells.items c.decode_known-insn.result.0 c.decode_known-insn.result.1 active.cells.room c.execute-turn.result
     c.decode_known-insn.ensures.exact fits c.execute-turn.ensures.turn c.in-Err.ending c.in-Err.ensures.acts).0
 
 pub returns-in-Err-clause-so_far : goal.returns-in-Err-clause-so_far
@@ -91,7 +91,7 @@ returns-in-Err-clause-so_far g c =
     let fits : main.body ≤ active.cells.room = omega (arith, c.if-from-need.false, c.from.ensures, c.from-need.ensures, stack_is, c.loop-self.invariant.room) in
     (ends-at C.left C.shown C.noted C.faults C.room ready (subst IsImage image_is c.image.ensures.image) (subst IsChecked image_is c.image.ensures.checked) (subst IsBuilt image_is c.image.ensures.built)
     c.args.ticks c.args.console.now main is_main c.as_slice-code.result.now c.as_slice-code.ensures c.loop-self.console _ c.loop-self.invariant.going
-    c.act.new.console _ c.execute-turn.new.cells.items c.decode_known-insn.result.0 c.decode_known-insn.result.1 active.cells.room c.execute-turn.result
+    c.act.new.console c.execute-turn.new.cells.items c.decode_known-insn.result.0 c.decode_known-insn.result.1 active.cells.room c.execute-turn.result
     c.decode_known-insn.ensures.exact fits c.execute-turn.ensures.turn c.in-Err.ending c.in-Err.ensures.acts).1
 
 pub loop-self-smaller : goal.loop-self-smaller
@@ -106,8 +106,8 @@ loop-self-smaller g c =
     let fits : main.body ≤ active.cells.room = omega (arith, c.if-from-need.false, c.from.ensures, c.from-need.ensures, stack_is, c.loop-self.invariant.room) in
     (on-at C.left C.shown C.noted C.faults C.room ready (subst IsImage image_is c.image.ensures.image) (subst IsChecked image_is c.image.ensures.checked) (subst IsBuilt image_is c.image.ensures.built)
     c.args.ticks c.args.console.now main is_main c.as_slice-code.result.now c.as_slice-code.ensures c.loop-self.console _ c.loop-self.invariant.going
-    c.act.new.console _ c.execute-turn.new.cells.items c.decode_known-insn.result.0 c.decode_known-insn.result.1 active.cells.room c.execute-turn.result
-    c.decode_known-insn.ensures.exact fits c.execute-turn.ensures.turn c.in_default-act.ensures.acts).1
+    c.act.new.console c.execute-turn.new.cells.items c.decode_known-insn.result.0 c.decode_known-insn.result.1 active.cells.room c.execute-turn.result
+    c.decode_known-insn.ensures.exact fits c.execute-turn.ensures.turn _ c.in_default-act.ensures.acts).1
 
 pub loop-self-preserved : goal.loop-self-preserved
 loop-self-preserved g c =
@@ -121,8 +121,8 @@ loop-self-preserved g c =
     let fits : main.body ≤ active.cells.room = omega (arith, c.if-from-need.false, c.from.ensures, c.from-need.ensures, stack_is, c.loop-self.invariant.room) in
     let on = (on-at C.left C.shown C.noted C.faults C.room ready (subst IsImage image_is c.image.ensures.image) (subst IsChecked image_is c.image.ensures.checked) (subst IsBuilt image_is c.image.ensures.built)
     c.args.ticks c.args.console.now main is_main c.as_slice-code.result.now c.as_slice-code.ensures c.loop-self.console _ c.loop-self.invariant.going
-    c.act.new.console _ c.execute-turn.new.cells.items c.decode_known-insn.result.0 c.decode_known-insn.result.1 active.cells.room c.execute-turn.result
-    c.decode_known-insn.ensures.exact fits c.execute-turn.ensures.turn c.in_default-act.ensures.acts) in
+    c.act.new.console c.execute-turn.new.cells.items c.decode_known-insn.result.0 c.decode_known-insn.result.1 active.cells.room c.execute-turn.result
+    c.decode_known-insn.ensures.exact fits c.execute-turn.ensures.turn _ c.in_default-act.ensures.acts) in
     record { going = on.0; room = omega (arith, c.loop-self.invariant.room, c.execute-turn.ensures.room, c.act.ensures.room) }
 
 pub loop-self-smaller-in-Next : goal.loop-self-smaller-in-Next
@@ -137,8 +137,8 @@ loop-self-smaller-in-Next g c =
     let fits : main.body ≤ active.cells.room = omega (arith, c.if-from-need.false, c.from.ensures, c.from-need.ensures, stack_is, c.loop-self.invariant.room) in
     (on-at C.left C.shown C.noted C.faults C.room ready (subst IsImage image_is c.image.ensures.image) (subst IsChecked image_is c.image.ensures.checked) (subst IsBuilt image_is c.image.ensures.built)
     c.args.ticks c.args.console.now main is_main c.as_slice-code.result.now c.as_slice-code.ensures c.loop-self.console _ c.loop-self.invariant.going
-    c.loop-self.console (place (active.pc + c.decode_known-insn.result.1) c.execute-turn.new.cells.items active.left) c.execute-turn.new.cells.items c.decode_known-insn.result.0 c.decode_known-insn.result.1 active.cells.room c.execute-turn.result
-    c.decode_known-insn.ensures.exact fits c.execute-turn.ensures.turn (rw c.in-Next.is (acts-next C.left C.shown C.noted C.faults C.room (active.pc + c.decode_known-insn.result.1) _ _ c.loop-self.console refl refl refl))).1
+    c.loop-self.console c.execute-turn.new.cells.items c.decode_known-insn.result.0 c.decode_known-insn.result.1 active.cells.room c.execute-turn.result
+    c.decode_known-insn.ensures.exact fits c.execute-turn.ensures.turn (place (active.pc + c.decode_known-insn.result.1) c.execute-turn.new.cells.items active.left) (rw c.in-Next.is (acts-next C.left C.shown C.noted C.faults C.room (active.pc + c.decode_known-insn.result.1) _ _ c.loop-self.console refl refl refl))).1
 
 pub loop-self-preserved-in-Next : goal.loop-self-preserved-in-Next
 loop-self-preserved-in-Next g c =
@@ -152,6 +152,6 @@ loop-self-preserved-in-Next g c =
     let fits : main.body ≤ active.cells.room = omega (arith, c.if-from-need.false, c.from.ensures, c.from-need.ensures, stack_is, c.loop-self.invariant.room) in
     let on = (on-at C.left C.shown C.noted C.faults C.room ready (subst IsImage image_is c.image.ensures.image) (subst IsChecked image_is c.image.ensures.checked) (subst IsBuilt image_is c.image.ensures.built)
     c.args.ticks c.args.console.now main is_main c.as_slice-code.result.now c.as_slice-code.ensures c.loop-self.console _ c.loop-self.invariant.going
-    c.loop-self.console (place (active.pc + c.decode_known-insn.result.1) c.execute-turn.new.cells.items active.left) c.execute-turn.new.cells.items c.decode_known-insn.result.0 c.decode_known-insn.result.1 active.cells.room c.execute-turn.result
-    c.decode_known-insn.ensures.exact fits c.execute-turn.ensures.turn (rw c.in-Next.is (acts-next C.left C.shown C.noted C.faults C.room (active.pc + c.decode_known-insn.result.1) _ _ c.loop-self.console refl refl refl))) in
+    c.loop-self.console c.execute-turn.new.cells.items c.decode_known-insn.result.0 c.decode_known-insn.result.1 active.cells.room c.execute-turn.result
+    c.decode_known-insn.ensures.exact fits c.execute-turn.ensures.turn (place (active.pc + c.decode_known-insn.result.1) c.execute-turn.new.cells.items active.left) (rw c.in-Next.is (acts-next C.left C.shown C.noted C.faults C.room (active.pc + c.decode_known-insn.result.1) _ _ c.loop-self.console refl refl refl))) in
     record { going = on.0; room = omega (arith, c.loop-self.invariant.room, c.execute-turn.ensures.room) }
