@@ -1,4 +1,4 @@
-use Rattle.std.proofs.Common.{◌+◌, ◌∷◌, [], List, take, drop, get_or, ℕ, refl, subst, ◌∙◌}
+use Rattle.std.proofs.Common.{◌+◌, ◌∷◌, [], take, drop, get_or, ◌∙◌}
 use Rattle.std.proofs.lemmas.Result.{err_from_is_err_and}
 use Rattle.dialogue.specs.Dialogue.{Put, putting, gets-putting}
 use Rattle.host_face.proofs.TalkLemmas.{Talked-then, Talked-put, BrokeOff-then, BrokeOff-put, same-without}

@@ -1,9 +1,9 @@
-use Rattle.std.proofs.Common.{◌≡◌, ◌+ℤ◌, ◌∙◌, rules, sym, ap}
+use Rattle.std.proofs.Common.{◌+ℤ◌, ◌∙◌, rules, sym, ap}
 use mir.Syntax.{w16, w32}
 use mir.Val.{SFits}
 use Rattle.std.specs.Int.{int_wrap}
 use Rattle.std.proofs.lemmas.Int.{to_z-of_z}
-use Rattle.cell_num.specs.Cells.{low_cell, high_cell, joined_cells}
+use Rattle.cell_num.specs.Cells.{low_cell, high_cell}
 use Rattle.mote_model.specs.Machine.{local_cells, with_local}
 use Rattle.mote_core.proofs.cells.increase.Goals as goal
 

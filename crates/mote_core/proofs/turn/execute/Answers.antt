@@ -1,4 +1,4 @@
-use Rattle.std.proofs.Common.{◌≡◌, ℕ, List, ◌∙◌, ap, subst, sym, rules, take, drop, ◌-◌}
+use Rattle.std.proofs.Common.{◌∙◌, ap, subst, rules, drop}
 use mir.Syntax.{w8, w16, w32}
 use mir.Val.{SFits}
 use Rattle.std.proofs.lemmas.Int.{to_z-of_z}

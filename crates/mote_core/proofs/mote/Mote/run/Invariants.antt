@@ -1,4 +1,4 @@
-use Rattle.std.proofs.Common.{ℕ, ◌≤◌}
+use Rattle.std.proofs.Common.{◌≤◌}
 use Rattle.mote_core.specs.Ready.{limits_of}
 use Rattle.mote_core.specs.Acts.{place}
 use Rattle.mote_core.proofs.Going.{Going, left_at}
