@@ -10,5 +10,6 @@ pub mod LinkedSets
 pub mod PhaseLists
 pub mod VerdictLaws
 pub mod SetRuns
+pub mod AnswersLeft
 pub mod EarlyPhases
 pub mod NumberSets

@@ -2,7 +2,7 @@
 use Rattle.std.proofs.Common.{◌≡◌, inl, inr, ℕ, List, [], ◌∷◌, Option, Some, None, refl, sym, ◌∙◌}
 use Rattle.std.proofs.lemmas.Option.{none-some}
 use Rattle.jvm_model.specs.declared.refusal.Refusal.{Refusal}
-use Rattle.jvm_model.specs.Verdict.{Phase, FirstRefusal, AreBytes, IsFunction, AreFunctions}
+use Rattle.jvm_model.specs.Verdict.{Phase, FirstRefusal, AreBytes, AreFunctions}
 
 pub first_total : (phases : List Phase) → AreFunctions phases → (files : List (List ℕ)) → AreBytes files → (found : Option Refusal) × FirstRefusal phases files found
 first_total [] all files bytes = (None, refl)

@@ -1,5 +1,6 @@
-ghost use Rattle.std.specs.Prelude.{◌≡◌, ℕ, false, List, Option};
-ghost use Rattle.dialogue.specs.Answers.{Answers};
+ghost use Rattle.std.specs.Prelude.{◌≡◌, ℕ, false, List, Option, drop};
+ghost use Rattle.dialogue.specs.Answers.{Answers, answers_of};
+ghost use Rattle.dialogue.specs.Dialogue.{gets};
 ghost use Rattle.dialogue.specs.Limits.{Limits};
 ghost use Rattle.dialogue.specs.Outcome.{Outcome};
 ghost use Rattle.image_form.specs.declared.record.Image.{Image};
@@ -50,4 +51,12 @@ pub fn limits_cut()
     ensures program_ends { (program : Program) (cells : ℕ) (limits : Limits) (answers : Answers) (outcome : Outcome Ending) → LimitedSo program cells limits answers outcome → is_want outcome.ending ≡ false → EndsSo program limits.ticks answers outcome }
     ensures set_said { (files : List (List ℕ)) (limits : Limits) (answers : Answers) (outcome unlimited : Outcome Ending) → LimitedRun files limits answers outcome → Run files limits.ticks answers unlimited → IsPrefix outcome.dialogue unlimited.dialogue }
     ensures set_ends { (files : List (List ℕ)) (limits : Limits) (answers : Answers) (outcome : Outcome Ending) → LimitedRun files limits answers outcome → is_want outcome.ending ≡ false → Run files limits.ticks answers outcome }
+{}
+
+/// A run leaves the answers that come after those that it asked for; so on an input that is told it leaves the
+/// bytes that come after those that it asked for.
+pub fn runs_leave_the_rest()
+    ensures run { (program : Program) (budget : ℕ) (answers : Answers) (outcome : Outcome Ending) → EndsSo program budget answers outcome → outcome.left ≡ drop (gets outcome.dialogue) answers }
+    ensures limited_run { (program : Program) (cells : ℕ) (limits : Limits) (answers : Answers) (outcome : Outcome Ending) → LimitedSo program cells limits answers outcome → outcome.left ≡ drop (gets outcome.dialogue) answers }
+    ensures on_input { (files : List (List ℕ)) (limits : Limits) (input : List ℕ) (outcome : Outcome Ending) → LimitedRun files limits (answers_of input) outcome → outcome.left ≡ answers_of (drop (gets outcome.dialogue) input) }
 {}

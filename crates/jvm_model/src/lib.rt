@@ -12,5 +12,7 @@
 mod laws;
 mod refusal;
 
-pub use laws::{limits_cut, one_ending, one_outcome, one_verdict, sets_are_linked};
+pub use laws::{
+    limits_cut, one_ending, one_outcome, one_verdict, runs_leave_the_rest, sets_are_linked,
+};
 pub use refusal::{Cause, Refusal};

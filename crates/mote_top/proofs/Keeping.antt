@@ -28,7 +28,7 @@ use Rattle.mote_top.specs.Endings.{typed_status, split_status}
 use Rattle.mote_top.specs.Call.{Spoken, Call, After}
 use Rattle.mote_top.specs.Reply.{Reply, RefusesSet, EndsAs, SetReplies, IsInfusion, ImageEndsAs, InfusionReplies, IsRunEnd, StoreReplies, MayReply, RunsInfusion, all_said, left_of}
 use Rattle.mote_top.specs.Answer.{Extent, Whole, Part, Nothing, extent, Talked, Replied, AnswersTo, Answers}
-use Rattle.mote_top.specs.Headline.{RunsOn, InfusesTo, RunsSet, LoadsSet, IsAnswer, IsReplied, Shows, ShowsSome, ShowsImage, RanInfusion, SaysNoInfusion, StoresInfusion, HasCause, KeepsShelf}
+use Rattle.mote_top.specs.Headline.{RunsOn, InfusesTo, RunsSet, LoadsSet, IsAnswer, IsReplied, Shows, ShowsSome, RanInfusion, SaysNoInfusion, StoresInfusion, HasCause, KeepsShelf}
 use Rattle.mote_top.specs.Promises.{Promises}
 use Rattle.mote_top.proofs.Answering.{whole_of}
 use Rattle.mote_top.proofs.Causes.{status_is, may_words, fault_reply, may_shelf, go_on, run_on, infuse_on}
