@@ -4,5 +4,5 @@ use Rattle.jvm_model.specs.Accepted.{FirstOf, OutsideClass}
 use Rattle.infuse_link.proofs.outside.test_classes.Given as goal
 
 -- what is found in the classes that are left is found in all
-abbrev pub invariant-loop-slot : goal.invariant-loop-slot
-invariant-loop-slot l = (found : Option Refusal) → FirstOf OutsideClass l.place (drop l.place l.classes) found → FirstOf OutsideClass 0 l.classes found
+abbrev pub invariant-loop-place : goal.invariant-loop-place
+invariant-loop-place l = (found : Option Refusal) → FirstOf OutsideClass l.place (drop l.place l.classes) found → FirstOf OutsideClass 0 l.classes found

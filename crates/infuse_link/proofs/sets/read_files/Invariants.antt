@@ -4,8 +4,8 @@ use Rattle.infuse_link.specs.Sets.{AreRead}
 use Rattle.infuse_link.proofs.sets.read_files.Given as goal
 
 -- the files so far are read, and those that are left decide
-abbrev pub invariant-loop-slot : goal.invariant-loop-slot
-invariant-loop-slot l = record {
+abbrev pub invariant-loop-place : goal.invariant-loop-place
+invariant-loop-place l = record {
   so_far : AreRead (take l.place (map (λ v. v.items) l.files)) l.classes.items;
   left : first_refusal reading_refusal l.place (drop l.place (map (λ v. v.items) l.files)) ≡ first_refusal reading_refusal 0 (map (λ v. v.items) l.files);
 }
