@@ -1,6 +1,7 @@
 //! The classes of the library, by their numbers.
 
-ghost use Rattle.std.specs.Prelude.{◌≡◌, slice_get, option_and_then, option_map};
+ghost use Rattle.std.specs.Prelude.{◌≡◌, slice_get, option_and_then, option_map, position};
+ghost use Rattle.std.specs.Str.{bytes_eq};
 ghost use Rattle.library.specs.Classes.{class_names, superclasses};
 
 /// The first number of what is a set's or an image's own, its types and its methods; those below are the
@@ -51,4 +52,24 @@ pub fn superclass_of(class: u16) -> Option<u16>
         13 => Some(12),
         _ => None,
     }
+}
+
+/// The first position of a name among names.
+#[tactic(auto, using(crate::proofs::Positions::position_here, crate::proofs::Positions::position_absent))]
+fn position_of(names: &[&[u8]], name: &[u8]) -> Option<usize>
+    ensures { result ≡ position (λ own. bytes_eq name.now own.now) names.now }
+{
+    for (position, own) in names.iter().enumerate() {
+        if name == *own {
+            return Some(position);
+        }
+    }
+    None
+}
+
+/// The number of the class of the library that has this name.
+pub fn class_of_name(name: &[u8]) -> Option<u16>
+    ensures { result ≡ position (bytes_eq name.now) class_names }
+{
+    position_of(&CLASS_NAMES, name).map(|class| class as u16)
 }

@@ -8,5 +8,5 @@ mod natives;
 #[cfg(test)]
 mod tests;
 
-pub use classes::{CLASS_COUNT, FIRST_OWN, class_name, superclass_of};
+pub use classes::{CLASS_COUNT, FIRST_OWN, class_name, class_of_name, superclass_of};
 pub use natives::Native;
