@@ -1,2 +1,6 @@
 mod Rows
 mod Leading
+mod Finding
+mod Numbers
+mod Scans
+mod NameLists

@@ -1,1 +1,4 @@
 pub mod Closure
+pub mod Scan
+pub mod Set
+pub mod Names

@@ -5,4 +5,7 @@
 #![tactic(auto)]
 
 mod closure;
+mod names;
+mod refusal;
 
+pub use refusal::TreeRefusal;

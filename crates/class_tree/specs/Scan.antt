@@ -1,0 +1,8 @@
+-- The first refusal among those of the items of a list.
+use Rattle.std.specs.Prelude.{ℕ, suc, List, [], ◌∷◌, Option, None}
+use Rattle.std.specs.Option.{option_or}
+
+-- what the first item is refused for that has a refusal; each is told its position, which counts from here
+unfoldable pub first_refusal : {X R : Type 0} → (ℕ → X → Option R) → ℕ → List X → Option R
+first_refusal test position [] = None
+first_refusal test position (x ∷ xs) = option_or (test position x) (first_refusal test (suc position) xs)
