@@ -2,3 +2,4 @@ pub mod Closure
 pub mod Scan
 pub mod Set
 pub mod Names
+pub mod Supers

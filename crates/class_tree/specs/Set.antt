@@ -1,13 +1,12 @@
 -- A set of classes: those of the library, and those of the files. The class of a file has the number after
 -- the library's numbers at the file's position.
-use Rattle.std.specs.Prelude.{ℕ, ◌+◌, ◌-◌, ◌&&◌, ◌||◌, Bool, false, nat_lt, nat_le, nat_eq, if◌then◌else◌, List, [], ◌∷◌, length, map, get_or, slice_get, Option, Some, None, option_map, option_and_then, unwrap_or, position, codes}
-use Rattle.std.specs.Option.{option_or, option_map_or}
-use Rattle.std.specs.List.{filter_map, list_any, starts_with}
+use Rattle.std.specs.Prelude.{ℕ, ◌+◌, ◌-◌, ◌&&◌, ◌||◌, Bool, nat_lt, nat_le, nat_eq, if◌then◌else◌, List, [], ◌∷◌, length, map, get_or, slice_get, Option, Some, None, option_map, option_and_then, unwrap_or, position}
+use Rattle.std.specs.Option.{option_or, option_map_or, option_to_list}
+use Rattle.std.specs.List.{filter_map, list_any}
 use Rattle.std.specs.Str.{bytes_eq}
 use Rattle.library.specs.Classes.{first_own, class_names, superclasses, is_library_class}
 use Rattle.class_pool.specs.Pool.{class_name_at}
 use Rattle.class_file.specs.declared.record.ClassFile.{ClassFile}
-use Rattle.class_file.specs.Rules.{is_interface, is_final}
 
 -- ---- names and numbers
 
@@ -38,25 +37,30 @@ is_class files class = is_library_class class || (nat_le first_own class && nat_
 
 -- ---- what stands directly above a class
 
--- the class that an entry of a file's pool names, where the set has it
-abbrev pub named_class : List ClassFile → ClassFile → ℕ → Option ℕ
-named_class files file index = option_and_then (number_of files) (class_name_at file.pool index)
+-- the class that an entry of a file's pool names, in a set of these names, where the set has it
+abbrev pub named_among : List (List ℕ) → ClassFile → ℕ → Option ℕ
+named_among names file index = option_and_then (number_among names) (class_name_at file.pool index)
 
--- its superclass; java/lang/Object has none
-abbrev pub superclass_of : List ClassFile → ℕ → Option ℕ
-superclass_of files class =
-    if nat_lt class first_own then option_and_then (λ above. above) (slice_get superclasses class)
-    else option_and_then (λ file. named_class files file file.super_class) (slice_get files (class - first_own))
+-- the superclass and the direct superinterfaces of a file's class that the set has, in their order
+abbrev pub supers_among : List (List ℕ) → ClassFile → List ℕ
+supers_among names file = filter_map (named_among names file) (file.super_class ∷ file.interfaces)
 
--- its direct superinterfaces, in their order
-abbrev pub interfaces_of : List ClassFile → ℕ → List ℕ
-interfaces_of files class = option_map_or (λ file. filter_map (named_class files file) file.interfaces) (file_of files class) []
+-- the superclass of a class of the library, where it has one
+abbrev pub library_supers : ℕ → List ℕ
+library_supers class = option_to_list (option_and_then (λ above. above) (slice_get superclasses class))
 
--- a class stands directly above another
--- the number is this one
-abbrev pub is_number : ℕ → Option ℕ → Bool
-is_number number None = false
-is_number number (Some other) = nat_eq number other
+-- what stands directly above a class: of the library its superclass, and else what its file says
+abbrev pub direct_supers : List ClassFile → ℕ → List ℕ
+direct_supers files class =
+    if nat_lt class first_own then library_supers class
+    else option_map_or (supers_among (map own_name files)) (slice_get files (class - first_own)) []
 
+-- a class stands directly below another
 abbrev pub is_directly_below : List ClassFile → ℕ → ℕ → Bool
-is_directly_below files lower upper = is_number upper (superclass_of files lower) || list_any (nat_eq upper) (interfaces_of files lower)
+is_directly_below files lower upper = list_any (nat_eq upper) (direct_supers files lower)
+
+-- ---- the kinds of classes
+
+-- the flags of a class; those of the library are public classes, neither final nor interfaces
+abbrev pub flags_of : List ClassFile → ℕ → ℕ
+flags_of files class = option_map_or (λ file. file.flags) (file_of files class) 1

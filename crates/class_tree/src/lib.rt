@@ -7,5 +7,6 @@
 mod closure;
 mod names;
 mod refusal;
+mod supers;
 
 pub use refusal::TreeRefusal;
