@@ -4,3 +4,4 @@ mod Finding
 mod Numbers
 mod Scans
 mod NameLists
+mod Within

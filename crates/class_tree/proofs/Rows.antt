@@ -1,5 +1,5 @@
 -- Rows of a table as vectors, and as lists.
-use Rattle.std.proofs.Common.{◌≡◌, ◌≢◌, ℕ, ◌<◌, List, [], map, length, get_or, Vec, Global, sym, ◌∙◌, ap, subst}
+use Rattle.std.proofs.Common.{◌≡◌, ◌≢◌, ℕ, zero, suc, ◌<◌, List, [], ◌∷◌, ◌++◌, map, length, get_or, Vec, Global, refl, sym, ◌∙◌, ap, subst, arith}
 use Rattle.std.specs.Prelude.{slice_set}
 use Rattle.std.proofs.lemmas.List.{get_or-map, get_or-set_same, get_or-set_other, map-set, length-map}
 
@@ -20,3 +20,13 @@ module _ {X : Type 0} where
   row_other rows i j v apart =
       ap (λ (l : List (List X)). get_or l j []) (map-set (λ (w : Vec X Global). w.items) rows i v)
       ∙ get_or-set_other (lists rows) i j v.items [] apart
+
+  -- a row that was pushed, and those before it
+  pub row_pushed : (rows : List (Vec X Global)) (v : Vec X Global) → get_or (lists (rows ++ v ∷ [])) (length rows) [] ≡ v.items
+  row_pushed [] v = refl
+  row_pushed (w ∷ rows) v = row_pushed rows v
+
+  pub row_earlier : (rows : List (Vec X Global)) (v : Vec X Global) (i : ℕ) → i < length rows → get_or (lists (rows ++ v ∷ [])) i [] ≡ get_or (lists rows) i []
+  row_earlier [] v i lt = absurd (omega (arith, lt))
+  row_earlier (w ∷ rows) v zero lt = refl
+  row_earlier (w ∷ rows) v (suc i) lt = row_earlier rows v i (omega (arith, lt))

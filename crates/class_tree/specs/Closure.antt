@@ -55,3 +55,8 @@ pub record IsStep (pivot : List Bool) (number : ℕ) (old new : List Bool) : Typ
 pub record IsRound (number : ℕ) (old new : Rows) : Type 0 where
   pub same_length : length new ≡ length old
   pub steps : (from : ℕ) → from < length old → IsStep (get_or old number []) number (get_or old from []) (get_or new from [])
+
+-- a row of so many flags says to which numbers a number leads at once
+pub record IsRowOf (edge : Edges) (count from : ℕ) (row : List Bool) : Type 0 where
+  pub long : length row ≡ count
+  pub says : (to : ℕ) → to < count → get_or row to false ≡ edge from to

@@ -1,8 +1,8 @@
 -- A set of classes: those of the library, and those of the files. The class of a file has the number after
 -- the library's numbers at the file's position.
-use Rattle.std.specs.Prelude.{ℕ, ◌+◌, ◌-◌, ◌&&◌, ◌||◌, Bool, nat_lt, nat_le, nat_eq, if◌then◌else◌, List, [], ◌∷◌, length, map, get_or, slice_get, Option, Some, None, option_map, option_and_then, unwrap_or, position}
-use Rattle.std.specs.Option.{option_or, option_map_or, option_to_list}
-use Rattle.std.specs.List.{filter_map, list_any}
+use Rattle.std.specs.Prelude.{ℕ, ◌+◌, ◌-◌, ◌&&◌, ◌||◌, Bool, false, nat_lt, nat_le, nat_eq, if◌then◌else◌, List, [], ◌∷◌, length, map, get_or, slice_get, Option, Some, None, option_map, option_and_then, unwrap_or, position}
+use Rattle.std.specs.Option.{option_or, option_map_or}
+use Rattle.std.specs.List.{list_any}
 use Rattle.std.specs.Str.{bytes_eq}
 use Rattle.library.specs.Classes.{first_own, class_names, superclasses, is_library_class}
 use Rattle.class_pool.specs.Pool.{class_name_at}
@@ -41,23 +41,24 @@ is_class files class = is_library_class class || (nat_le first_own class && nat_
 abbrev pub named_among : List (List ℕ) → ClassFile → ℕ → Option ℕ
 named_among names file index = option_and_then (number_among names) (class_name_at file.pool index)
 
--- the superclass and the direct superinterfaces of a file's class that the set has, in their order
-abbrev pub supers_among : List (List ℕ) → ClassFile → List ℕ
-supers_among names file = filter_map (named_among names file) (file.super_class ∷ file.interfaces)
+-- the number is this one
+abbrev pub is_number : ℕ → Option ℕ → Bool
+is_number number None = false
+is_number number (Some other) = nat_eq number other
 
 -- the superclass of a class of the library, where it has one
-abbrev pub library_supers : ℕ → List ℕ
-library_supers class = option_to_list (option_and_then (λ above. above) (slice_get superclasses class))
+abbrev pub library_superclass : ℕ → Option ℕ
+library_superclass class = option_and_then (λ above. above) (slice_get superclasses class)
 
--- what stands directly above a class: of the library its superclass, and else what its file says
-abbrev pub direct_supers : List ClassFile → ℕ → List ℕ
-direct_supers files class =
-    if nat_lt class first_own then library_supers class
-    else option_map_or (supers_among (map own_name files)) (slice_get files (class - first_own)) []
+-- an entry of the file for its superclass or a superinterface names the class
+abbrev pub names_super : List (List ℕ) → ℕ → ClassFile → Bool
+names_super names upper file = list_any (λ index. is_number upper (named_among names file index)) (file.super_class ∷ file.interfaces)
 
--- a class stands directly below another
-abbrev pub is_directly_below : List ClassFile → ℕ → ℕ → Bool
-is_directly_below files lower upper = list_any (nat_eq upper) (direct_supers files lower)
+-- one class stands directly below another, in a set of these names and files
+abbrev pub is_directly_below : List (List ℕ) → List ClassFile → ℕ → ℕ → Bool
+is_directly_below names files lower upper =
+    if nat_lt lower first_own then is_number upper (library_superclass lower)
+    else option_map_or (names_super names upper) (slice_get files (lower - first_own)) false
 
 -- ---- the kinds of classes
 

@@ -4,6 +4,7 @@
 //! `indexmap`.
 #![tactic(auto)]
 
+mod above;
 mod closure;
 mod names;
 mod refusal;

@@ -1,6 +1,6 @@
 //! The names of the classes of a set, in the order of their files, each once.
 
-ghost use Rattle.std.specs.Prelude.{◌≡◌, ◌⊎◌, ◌≤◌, false, [], ◌∷◌, ◌++◌, None, Some, map, length, IfOk, IfErr, OnOk, OnErr};
+ghost use Rattle.std.specs.Prelude.{◌≡◌, ◌⊎◌, ◌≤◌, false, [], ◌∷◌, ◌++◌, None, Some, map, length, ◌<◌, ◌+◌, IfSome, IfOk, IfErr, OnOk, OnErr};
 ghost use Rattle.std.specs.List.{list_any};
 ghost use Rattle.std.specs.Str.{bytes_eq};
 ghost use Rattle.class_tree.specs.declared.refusal.TreeRefusal.TheVariants.{Memory};
@@ -57,10 +57,18 @@ impl Names {
         Ok(())
     }
 
+    /// How many names there are.
+    pub(crate) fn count(&self) -> usize
+        ensures { result ≡ length self.now }
+    {
+        self.set.len()
+    }
+
     /// The number of the class of this name, in a set of these names.
     pub(crate) fn number_of(&self, name: &[u8]) -> Option<u16>
         requires { length self.now ≤ 512 }
-        ensures { result ≡ number_among_names self.now name.now }
+        ensures number { result ≡ number_among_names self.now name.now }
+        ensures within { IfSome result (λ class. class < 32 + length self.now) }
     {
         match class_of_name(name) {
             Some(class) => Some(class),

@@ -1,6 +1,6 @@
 //! What stands directly above each class: whether the set has it, and whether it may stand there (JVMS 4.1).
 
-ghost use Rattle.std.specs.Prelude.{◌≡◌, ℕ, ◌≤◌, None, Some, length, is_none, IfErr, OnOk};
+ghost use Rattle.std.specs.Prelude.{◌≡◌, ℕ, ◌≤◌, None, Some, length, is_none, ◌<◌, ◌+◌, IfSome, IfErr, OnOk};
 ghost use Rattle.std.specs.List.{list_any};
 ghost use Rattle.class_file.specs.Rules.{is_interface as is_interface_flag, is_final as is_final_flag};
 ghost use Rattle.class_tree.specs.Set.{named_among, flags_of as flags_of_class};
@@ -44,7 +44,8 @@ pub(crate) fn flags_of(files: &[ClassFile], class: u16) -> u16
 /// The class that an entry of the file's pool names, where the set has it.
 pub(crate) fn named(names: &Names, file: &ClassFile, index: u16) -> Option<u16>
     requires { length names.now ≤ 512 }
-    ensures { result ≡ named_among names.now file.now index }
+    ensures number { result ≡ named_among names.now file.now index }
+    ensures within { IfSome result (λ class. class < 32 + length names.now) }
 {
     match file.pool.class_name(index) {
         Some(name) => names.number_of(name),
