@@ -5,3 +5,4 @@ mod Numbers
 mod Scans
 mod NameLists
 mod Within
+mod Tables
