@@ -3,3 +3,4 @@ pub mod Scan
 pub mod Set
 pub mod Names
 pub mod Supers
+pub mod Circles

@@ -5,6 +5,7 @@
 #![tactic(auto)]
 
 mod above;
+mod circles;
 mod closure;
 mod names;
 mod refusal;
