@@ -4,3 +4,4 @@ pub mod Set
 pub mod Names
 pub mod Supers
 pub mod Circles
+pub mod Descriptors

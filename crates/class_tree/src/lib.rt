@@ -7,6 +7,7 @@
 mod above;
 mod circles;
 mod closure;
+mod descriptors;
 mod names;
 mod refusal;
 mod supers;
