@@ -6,3 +6,4 @@ mod Scans
 mod NameLists
 mod Within
 mod Tables
+mod Faults

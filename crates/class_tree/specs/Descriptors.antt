@@ -1,5 +1,5 @@
 -- What the declared descriptors of fields and methods name (JVMS 4.3).
-use Rattle.std.specs.Prelude.{ℕ, Bool, true, false, ◌||◌, if◌then◌else◌, List, [], ◌∷◌, ◌++◌, map, Option, Some, None, is_none, option_map, option_and_then}
+use Rattle.std.specs.Prelude.{ℕ, Bool, true, false, ◌||◌, if◌then◌else◌, List, [], ◌∷◌, ◌++◌, map, Option, Some, None, is_none, option_map, option_and_then, slice_get}
 use Rattle.std.specs.Option.{option_or, option_map_or, option_to_list}
 use Rattle.std.specs.List.{list_any}
 use Rattle.class_pool.specs.declared.descriptor.Base.{Base}
@@ -15,7 +15,7 @@ use Rattle.class_tree.specs.declared.refusal.TreeRefusal.{TreeRefusal}
 use Rattle.class_tree.specs.declared.refusal.TreeRefusal.TheVariants.{MissingClass, WideType}
 use Rattle.class_tree.specs.declared.descriptors.Fault.{Fault}
 use Rattle.class_tree.specs.declared.descriptors.Fault.TheVariants.{Missing, Wide}
-use Rattle.class_tree.specs.Scan.{first_refusal}
+use Rattle.class_tree.specs.Scan.{first_refusal, saturated}
 use Rattle.class_tree.specs.Set.{number_among}
 
 -- ---- types
@@ -44,14 +44,25 @@ kinds_fault names kinds =
 abbrev pub kinds_of : Descriptor → List Kind
 kinds_of type = type.params ++ option_to_list type.result
 
--- what is wrong with the text at an index as a field's descriptor, and as a method's
+-- what is wrong with a text as a field's descriptor, and as a method's
+abbrev pub field_text_fault : List (List ℕ) → List ℕ → Option Fault
+field_text_fault names text = option_and_then (λ kind. kinds_fault names (kind ∷ [])) (field_of text)
+
+abbrev pub method_text_fault : List (List ℕ) → List ℕ → Option Fault
+method_text_fault names text = option_and_then (λ type. kinds_fault names (kinds_of type)) (method_of text)
+
+-- what is wrong with the text at an index
 abbrev pub field_fault : List (List ℕ) → Slots → ℕ → Option Fault
-field_fault names pool index = option_and_then (λ kind. kinds_fault names (kind ∷ [])) (option_and_then field_of (utf8_at pool index))
+field_fault names pool index = option_and_then (field_text_fault names) (utf8_at pool index)
 
 abbrev pub method_fault : List (List ℕ) → Slots → ℕ → Option Fault
-method_fault names pool index = option_and_then (λ type. kinds_fault names (kinds_of type)) (option_and_then method_of (utf8_at pool index))
+method_fault names pool index = option_and_then (method_text_fault names) (utf8_at pool index)
 
 -- ---- members
+
+-- what a list says is wrong with the text at an index
+abbrev pub fault_at : List (Option Fault) → ℕ → Option Fault
+fault_at faults index = option_and_then (λ fault. fault) (slice_get faults index)
 
 -- the refusal of a member: the value is 1 for a field and 2 for a method
 abbrev pub fault_refusal : ℕ → ℕ → ℕ → Fault → TreeRefusal
@@ -60,7 +71,7 @@ fault_refusal file value member Wide = WideType file member value
 
 -- what a member is refused for, by what is wrong with its descriptor
 abbrev pub member_refusal : (ℕ → Option Fault) → ℕ → ℕ → ℕ → Member → Option TreeRefusal
-member_refusal fault file value member m = option_map (fault_refusal file value member) (fault m.descriptor)
+member_refusal fault file value member m = option_map (fault_refusal file value (saturated member)) (fault m.descriptor)
 
 -- what the first field, or else the first method, of a file is refused for
 abbrev pub file_refusal : List (List ℕ) → ℕ → ClassFile → Option TreeRefusal

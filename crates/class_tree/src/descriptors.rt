@@ -7,8 +7,8 @@ ghost use Rattle.class_pool.specs.Descriptors.{base_of as base_of_kind};
 ghost use Rattle.class_pool.specs.Pool.{utf8_at};
 ghost use Rattle.class_pool.specs.DescriptorReading.{field_of, method_of};
 ghost use Rattle.class_tree.specs.declared.refusal.TreeRefusal.TheVariants.{Memory};
-ghost use Rattle.class_tree.specs.Scan.{first_refusal};
-ghost use Rattle.class_tree.specs.Descriptors.{lacks_base as lacks_base_of, is_wide_base as is_wide_base_of, kinds_fault as kinds_fault_of, kinds_of, field_fault, method_fault, fault_refusal as fault_refusal_of, member_refusal, file_refusal, declared_refusal};
+ghost use Rattle.class_tree.specs.Scan.{first_refusal, saturated as saturated_of};
+ghost use Rattle.class_tree.specs.Descriptors.{lacks_base as lacks_base_of, is_wide_base as is_wide_base_of, kinds_fault as kinds_fault_of, kinds_of, fault_at as fault_at_index, field_fault as field_fault_of, method_fault as method_fault_of, fault_refusal as fault_refusal_of, member_refusal, file_refusal, declared_refusal};
 
 use crate::names::Names;
 use crate::refusal::TreeRefusal;
@@ -133,4 +133,127 @@ fn method_text_fault(
         Err(DescriptorRefusal::BadDescriptor) => Ok(None),
         Err(DescriptorRefusal::Memory) => Err(TreeRefusal::Memory),
     }
+}
+
+/// The number in the four bytes of its field, or the greatest one.
+fn saturated(number: usize) -> u32
+    ensures { result ≡ saturated_of number }
+{
+    u32::try_from(number).unwrap_or(u32::MAX)
+}
+
+/// What is wrong with the text at an index as a field's descriptor.
+fn field_fault(
+    alloc: Global,
+    names: &Names,
+    pool: &Pool,
+    index: u16,
+) -> Result<Option<Fault>, TreeRefusal>
+    requires { length names.now ≤ 512 }
+    ensures found { IfOk result (λ fault. fault ≡ field_fault_of names.now pool.now index) }
+    ensures memory { IfErr result (λ why. why ≡ Memory) }
+{
+    match pool.utf8(index) {
+        Some(text) => field_text_fault(alloc, names, text),
+        None => Ok(None),
+    }
+}
+
+/// What is wrong with the text at an index as a method's descriptor.
+fn method_fault(
+    alloc: Global,
+    names: &Names,
+    pool: &Pool,
+    index: u16,
+) -> Result<Option<Fault>, TreeRefusal>
+    requires { length names.now ≤ 512 }
+    ensures found { IfOk result (λ fault. fault ≡ method_fault_of names.now pool.now index) }
+    ensures memory { IfErr result (λ why. why ≡ Memory) }
+{
+    match pool.utf8(index) {
+        Some(text) => method_text_fault(alloc, names, text),
+        None => Ok(None),
+    }
+}
+
+/// What is wrong with each text of a pool as a field's descriptor, by its index.
+fn field_faults(
+    alloc: Global,
+    names: &Names,
+    pool: &Pool,
+) -> Result<Vec<Option<Fault>>, TreeRefusal>
+    requires { length names.now ≤ 512 }
+    ensures found { IfOk result (λ faults. (index : ℕ) → fault_at_index faults.items index ≡ field_fault_of names.now pool.now index) }
+    ensures memory { IfErr result (λ why. why ≡ Memory) }
+{
+    let mut faults = Vec::new(alloc);
+    for index in 0..pool.count() {
+        let fault = field_fault(alloc, names, pool, index)?;
+        faults.push(fault)?;
+    }
+    Ok(faults)
+}
+
+/// What is wrong with each text of a pool as a method's descriptor, by its index.
+fn method_faults(
+    alloc: Global,
+    names: &Names,
+    pool: &Pool,
+) -> Result<Vec<Option<Fault>>, TreeRefusal>
+    requires { length names.now ≤ 512 }
+    ensures found { IfOk result (λ faults. (index : ℕ) → fault_at_index faults.items index ≡ method_fault_of names.now pool.now index) }
+    ensures memory { IfErr result (λ why. why ≡ Memory) }
+{
+    let mut faults = Vec::new(alloc);
+    for index in 0..pool.count() {
+        let fault = method_fault(alloc, names, pool, index)?;
+        faults.push(fault)?;
+    }
+    Ok(faults)
+}
+
+/// The refusal of a member for what is wrong with its descriptor.
+fn fault_refusal(file: u32, value: u32, member: u32, fault: Fault) -> TreeRefusal
+    ensures { result ≡ fault_refusal_of file value member fault }
+{
+    match fault {
+        Fault::Missing => TreeRefusal::MissingClass {
+            file,
+            member,
+            value,
+        },
+        Fault::Wide => TreeRefusal::WideType {
+            file,
+            member,
+            value,
+        },
+    }
+}
+
+/// What is wrong with the text at an index.
+fn fault_at(faults: &[Option<Fault>], index: u16) -> Option<Fault>
+    ensures { result ≡ fault_at_index faults.now index }
+{
+    match faults.get(usize::from(index)) {
+        Some(fault) => *fault,
+        None => None,
+    }
+}
+
+/// What the first member is refused for, by what is wrong with the texts of the pool.
+fn first_member(
+    faults: &[Option<Fault>],
+    file: u32,
+    value: u32,
+    members: &[Member],
+) -> Option<TreeRefusal>
+    ensures { result ≡ first_refusal (member_refusal (fault_at_index faults.now) file value) 0 members.now }
+{
+    for (position, member) in members.iter().enumerate() {
+        match fault_at(faults, member.descriptor) {
+            Some(fault) => return Some(fault_refusal(file, value, saturated(position), fault)),
+            None => {}
+        }
+    }
+    None
 }
