@@ -43,3 +43,10 @@ taken_suc (y ∷ xs) (suc i) x lt is = ap (λ zs. y ∷ zs) (taken_suc xs i x (o
 
 pub taken : {X : Type 0} (xs : List X) (i : ℕ) (x : X) → i < length xs → x ≡ get_or xs i x → take (i + 1) xs ≡ take i xs ++ x ∷ []
 taken xs i x lt is = ap (λ n. take n xs) (add-one i) ∙ taken_suc xs i x lt is
+
+-- tests that answer alike find the same
+pub scan_same : {X R : Type 0} (first second : ℕ → X → Option R) → ((i : ℕ) (x : X) → first i x ≡ second i x) → (i : ℕ) (xs : List X) → first_refusal first i xs ≡ first_refusal second i xs
+unfolding first_refusal
+scan_same first second same i [] = refl
+scan_same first second same i (x ∷ xs) =
+    ap (λ o. option_or o (first_refusal first (suc i) xs)) (same i x) ∙ ap (option_or (second i x)) (scan_same first second same (suc i) xs)

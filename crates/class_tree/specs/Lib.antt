@@ -5,3 +5,5 @@ pub mod Names
 pub mod Supers
 pub mod Circles
 pub mod Descriptors
+pub mod Tree
+pub mod Kept

@@ -136,7 +136,7 @@ fn method_text_fault(
 }
 
 /// The number in the four bytes of its field, or the greatest one.
-fn saturated(number: usize) -> u32
+pub(crate) fn saturated(number: usize) -> u32
     ensures { result ≡ saturated_of number }
 {
     u32::try_from(number).unwrap_or(u32::MAX)
@@ -256,4 +256,45 @@ fn first_member(
         }
     }
     None
+}
+
+/// What a file is refused for by the descriptors of its fields and methods.
+fn file_fault(
+    alloc: Global,
+    names: &Names,
+    position: u32,
+    file: &ClassFile,
+) -> Result<Option<TreeRefusal>, TreeRefusal>
+    requires { length names.now ≤ 512 }
+    ensures found { IfOk result (λ fault. fault ≡ file_refusal names.now position file.now) }
+    ensures memory { IfErr result (λ why. why ≡ Memory) }
+{
+    let of_fields = field_faults(alloc, names, &file.pool)?;
+    let of_methods = method_faults(alloc, names, &file.pool)?;
+    let fault = match first_member(of_fields.as_slice(), position, 1, file.fields.as_slice()) {
+        Some(why) => Some(why),
+        None => first_member(of_methods.as_slice(), position, 2, file.methods.as_slice()),
+    };
+    Ok(fault)
+}
+
+/// Tests the declared descriptors of each file.
+pub(crate) fn test_descriptors(
+    alloc: Global,
+    names: &Names,
+    files: &[ClassFile],
+) -> Result<(), TreeRefusal>
+    requires names { length names.now ≤ 512 }
+    requires files { length files.now ≤ 512 }
+    ensures passed { OnOk result (declared_refusal names.now files.now ≡ None) }
+    ensures refused { IfErr result (λ why. (why ≡ Memory) ⊎ (declared_refusal names.now files.now ≡ Some why)) }
+{
+    for (position, file) in files.iter().enumerate() {
+        match file_fault(alloc, names, position as u32, file) {
+            Ok(None) => {}
+            Ok(Some(why)) => return Err(why),
+            Err(why) => return Err(why),
+        }
+    }
+    Ok(())
 }

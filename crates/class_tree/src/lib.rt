@@ -10,6 +10,8 @@ mod closure;
 mod descriptors;
 mod names;
 mod refusal;
+mod set;
 mod supers;
 
 pub use refusal::TreeRefusal;
+pub use set::{ClassSet, gather};
