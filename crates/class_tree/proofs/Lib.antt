@@ -7,3 +7,4 @@ mod NameLists
 mod Within
 mod Tables
 mod Faults
+mod NamesOf

@@ -7,3 +7,4 @@ pub mod Circles
 pub mod Descriptors
 pub mod Tree
 pub mod Kept
+pub mod Subtypes

@@ -1,10 +1,10 @@
 -- A set of classes: those of the library, and those of the files. The class of a file has the number after
 -- the library's numbers at the file's position.
-use Rattle.std.specs.Prelude.{ℕ, ◌+◌, ◌-◌, ◌&&◌, ◌||◌, Bool, false, nat_lt, nat_le, nat_eq, if◌then◌else◌, List, [], ◌∷◌, length, map, get_or, slice_get, Option, Some, None, option_map, option_and_then, unwrap_or, position}
+use Rattle.std.specs.Prelude.{ℕ, ◌+◌, ◌-◌, ◌<◌, ◌≤◌, ◌⊎◌, Bool, false, nat_lt, nat_eq, if◌then◌else◌, List, [], ◌∷◌, length, map, get_or, slice_get, Option, Some, None, option_map, option_and_then, unwrap_or, position}
 use Rattle.std.specs.Option.{option_or, option_map_or}
 use Rattle.std.specs.List.{list_any}
 use Rattle.std.specs.Str.{bytes_eq}
-use Rattle.library.specs.Classes.{first_own, class_names, superclasses, is_library_class}
+use Rattle.library.specs.Classes.{first_own, class_names, superclasses}
 use Rattle.class_pool.specs.Pool.{class_name_at}
 use Rattle.class_file.specs.declared.record.ClassFile.{ClassFile}
 
@@ -31,9 +31,9 @@ file_of files class = if nat_lt class first_own then None else slice_get files (
 abbrev pub name_of : List ClassFile → ℕ → List ℕ
 name_of files class = if nat_lt class first_own then get_or class_names class [] else option_map_or own_name (slice_get files (class - first_own)) []
 
--- the number is that of a class of the set
-abbrev pub is_class : List ClassFile → ℕ → Bool
-is_class files class = is_library_class class || (nat_le first_own class && nat_lt (class - first_own) (length files))
+-- the number is that of a class of the library, or of a file's class
+abbrev pub IsClass : List ClassFile → ℕ → Type 0
+IsClass files class = (class < 15) ⊎ ((first_own ≤ class) × (class - first_own < length files))
 
 -- ---- what stands directly above a class
 

@@ -1,12 +1,13 @@
 //! The closed set of classes that files are.
 
-ghost use Rattle.std.specs.Prelude.{◌≡◌, ◌⊎◌, ◌<◌, ◌-◌, ◌≤◌, ℕ, None, Some, map, length, IfOk, IfErr, OnOk, slice_get, IsTrue};
+ghost use Rattle.std.specs.Prelude.{◌≡◌, ◌⊎◌, ◌<◌, ◌-◌, ◌≤◌, ℕ, None, Some, map, length, IfOk, IfErr, OnOk, slice_get, MatchBool};
+ghost use Rattle.class_tree.specs.Subtypes.{IsSubclass};
 ghost use Rattle.class_tree.specs.declared.refusal.TreeRefusal.TheVariants.{Memory};
-ghost use Rattle.class_tree.specs.Set.{own_name as own_name_of, is_class, name_of as name_of_class, number_of as number_of_class};
+ghost use Rattle.class_tree.specs.Set.{own_name as own_name_of, IsClass, name_of as name_of_class, number_of as number_of_class};
 ghost use Rattle.class_tree.specs.Tree.{Gathers};
 
 use crate::above::above_of;
-use crate::circles::test_circles;
+use crate::circles::{leads, test_circles};
 use crate::descriptors::{saturated, test_descriptors};
 use crate::names::{Names, names_of, own_name};
 use crate::refusal::TreeRefusal;
@@ -63,4 +64,49 @@ pub fn gather(alloc: Global, files: Vec<ClassFile>) -> Result<ClassSet, TreeRefu
         names,
         above,
     })
+}
+
+impl ClassSet {
+    /// The number of the class of this name, its parts with `/` between them. `None` where it is absent.
+    pub fn number_of(&self, name: &[u8]) -> Option<u16>
+        ensures { result ≡ number_of_class self.now name.now }
+    {
+        self.names.number_of(name)
+    }
+
+    /// The name of a class of the set.
+    pub fn name_of(&self, class: u16) -> &[u8]
+        requires { IsClass self.now class }
+        ensures { result.now ≡ name_of_class self.now class }
+    {
+        if class < FIRST_OWN {
+            return class_name(class).unwrap_or(&[]);
+        }
+        own_name(self.file(class))
+    }
+
+    /// How many files the set has.
+    pub fn file_count(&self) -> u16
+        ensures { result ≡ length self.now }
+    {
+        self.files.len() as u16
+    }
+
+    /// The record of a class that has a file.
+    pub fn file(&self, class: u16) -> &ClassFile
+        requires own { 32 ≤ class }
+        requires within { class - 32 < length self.now }
+        ensures { slice_get self.now (class - 32) ≡ Some result.now }
+    {
+        &self.files[usize::from(class - FIRST_OWN)]
+    }
+
+    /// One class is another one, or is below it.
+    pub(crate) fn is_subclass(&self, lower: u16, upper: u16) -> bool
+        requires lower { IsClass self.now lower }
+        requires upper { IsClass self.now upper }
+        ensures { MatchBool result (IsSubclass self.now lower upper) (¬ IsSubclass self.now lower upper) }
+    {
+        lower == upper || leads(self.above.as_slice(), usize::from(lower), usize::from(upper))
+    }
 }
