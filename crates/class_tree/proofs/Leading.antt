@@ -66,7 +66,7 @@ module _ (edge : Edges) where
       over_suc k from to ∙ or_right (leads_over edge k from to) (leads_over edge k from k && leads_over edge k k to) (and_both (leads_over edge k from k) (leads_over edge k k to) e f)
 
   -- ways after one another
-  follows : (from by to : ℕ) → Leads edge from by → Leads edge by to → Leads edge from to
+  pub follows : (from by to : ℕ) → Leads edge from by → Leads edge by to → Leads edge from to
   follows from by to (AtOnce e) q = Over by e q
   follows from by to (Over m e p) q = Over m e (follows m by to p q)
 

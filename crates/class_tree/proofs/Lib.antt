@@ -8,3 +8,4 @@ mod Within
 mod Tables
 mod Faults
 mod NamesOf
+mod Subtyping

@@ -1,6 +1,6 @@
 -- Which types are below which (JVMS 4.10.1.2, by the rules of the profile): the least relation that holds
 -- from each type to itself, and goes up step by step.
-use Rattle.std.specs.Prelude.{◌≡◌, ℕ, ◌+◌, ◌≤◌, ◌⊎◌, Bool, true, List, map}
+use Rattle.std.specs.Prelude.{◌≡◌, ℕ, ◌+◌, ◌<◌, ◌≤◌, ◌⊎◌, Bool, true, List, map}
 use Rattle.class_pool.specs.declared.types.TypeRef.{TypeRef}
 use Rattle.class_pool.specs.declared.types.TypeBase.{TypeBase}
 use Rattle.class_pool.specs.declared.types.TypeBase.TheVariants.{Class, Byte, Char, Short, Int, Boolean}
@@ -37,3 +37,15 @@ pub data IsSubtype (files : List ClassFile) : TypeRef → TypeRef → Type 0 whe
   Super : (lower upper : ℕ) → directly_below files lower upper ≡ true → IsSubtype files (class_type lower) (class_type upper)
   Array : (type : TypeRef) → 1 ≤ type.dims → IsSubtype files type (class_type 0)
   Component : {lower upper : TypeRef} → IsReference lower → IsReference upper → IsSubtype files lower upper → IsSubtype files (array_of lower) (array_of upper)
+
+-- ---- by dimensions and bases
+
+-- a class is below a class, and any other base below itself alone
+abbrev pub IsBaseBelow : List ClassFile → TypeBase → TypeBase → Type 0
+IsBaseBelow files (Class lower) (Class upper) = IsSubclass files lower upper
+IsBaseBelow files lower upper = lower ≡ upper
+
+-- types of as many dimensions are by their bases; one of more dimensions is below arrays of java/lang/Object
+-- of fewer, and below java/lang/Object
+abbrev pub IsBelow : List ClassFile → TypeRef → TypeRef → Type 0
+IsBelow files lower upper = ((lower.dims ≡ upper.dims) × IsBaseBelow files lower.base upper.base) ⊎ ((upper.dims < lower.dims) × (upper.base ≡ Class 0))
