@@ -6,7 +6,7 @@ use Rattle.class_pool.specs.declared.types.TypeBase.{TypeBase}
 use Rattle.class_pool.specs.declared.types.TypeBase.TheVariants.{Class, Byte, Char, Short, Int, Boolean}
 use Rattle.class_file.specs.declared.record.ClassFile.{ClassFile}
 use Rattle.class_tree.specs.Closure.{Edges, Leads}
-use Rattle.class_tree.specs.Set.{own_name, is_directly_below}
+use Rattle.class_tree.specs.Set.{own_name, is_directly_below, IsClass}
 
 -- what stands directly above what in the set
 abbrev pub directly_below : List ClassFile → Edges
@@ -49,3 +49,18 @@ IsBaseBelow files lower upper = lower ≡ upper
 -- of fewer, and below java/lang/Object
 abbrev pub IsBelow : List ClassFile → TypeRef → TypeRef → Type 0
 IsBelow files lower upper = ((lower.dims ≡ upper.dims) × IsBaseBelow files lower.base upper.base) ⊎ ((upper.dims < lower.dims) × (upper.base ≡ Class 0))
+
+-- ---- types of a set
+
+-- a class of the set, or a primitive type
+abbrev pub IsBaseType : List ClassFile → TypeBase → Type 0
+IsBaseType files (Class class) = IsClass files class
+IsBaseType files base = Unit {0}
+
+-- a primitive type stands in arrays alone
+abbrev pub HasDimensions : ℕ → TypeBase → Type 0
+HasDimensions dims (Class class) = Unit {0}
+HasDimensions dims base = 1 ≤ dims
+
+abbrev pub IsType : List ClassFile → TypeRef → Type 0
+IsType files type = IsBaseType files type.base × HasDimensions type.dims type.base

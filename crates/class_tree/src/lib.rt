@@ -11,7 +11,9 @@ mod descriptors;
 mod names;
 mod refusal;
 mod set;
+mod subtype;
 mod supers;
 
 pub use refusal::TreeRefusal;
 pub use set::{ClassSet, gather};
+pub use subtype::is_subtype;
