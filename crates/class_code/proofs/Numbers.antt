@@ -14,7 +14,8 @@ use Rattle.class_code.specs.declared.insn.SwitchForm.TheVariants as switch
 use Rattle.class_code.specs.declared.insn.SwitchRow.{SwitchRow}
 use Rattle.class_code.specs.declared.insn.Insn.{Insn}
 use Rattle.class_code.specs.declared.insn.Insn.TheVariants.{Push, Inc, Switch}
-use Rattle.class_code.specs.Operands.{◌>>=◌, u1_at, u2_at, u4_at, i1_at, i2_at, i4_at, target_at, far_target_at}
+use Rattle.byte_read.specs.Reading.{◌>>=◌}
+use Rattle.class_code.specs.Operands.{u1_at, u2_at, u4_at, i1_at, i2_at, i4_at, target_at, far_target_at}
 use Rattle.class_code.specs.Table.{Prefix, is_within, constant, load, array_load, store, array_store, operation, binary, increment, math, conversion, jump, branch, is_above, padding_at, table_rows, span, tableswitch, lookup_row, lookup_rows, lookupswitch, control, call_interface, member_insn, member, array_kind, new_array, class_insn, object, wide_increment, widened, wide, multi_array, goto_w, extended, by_opcode, insn_at}
 use Rattle.class_code.specs.Code.{Insns, AreIn}
 

@@ -4,7 +4,8 @@ use Rattle.std.proofs.lemmas.List.{append-nil}
 use Rattle.class_code.specs.declared.refusal.Fault.{Fault}
 use Rattle.class_code.specs.declared.refusal.Fault.TheVariants.{Unsupported, BadCode, Memory}
 use Rattle.class_code.specs.declared.insn.SwitchRow.{SwitchRow}
-use Rattle.class_code.specs.Operands.{◌>>=◌, Gives, far_target_at}
+use Rattle.byte_read.specs.Reading.{◌>>=◌}
+use Rattle.class_code.specs.Operands.{Gives, far_target_at}
 use Rattle.class_code.specs.Table.{table_rows, lookup_row, lookup_rows}
 
 -- what was read before, and what is still read

@@ -8,7 +8,8 @@ use Rattle.cell_num.specs.declared.arithmetic.BinOp.{BinOp}
 use Rattle.class_code.specs.declared.refusal.Fault.{Fault}
 use Rattle.class_code.specs.declared.refusal.Fault.TheVariants.{Unsupported, BadCode}
 use Rattle.class_code.specs.declared.insn.Insn.{Insn}
-use Rattle.class_code.specs.Operands.{◌>>=◌, u1_at, u2_at, u4_at, i1_at, i2_at, i4_at, slice_at, target_at, far_target_at}
+use Rattle.byte_read.specs.Reading.{◌>>=◌, u1_at as byte_at, number_at, slice_at as bytes_at}
+use Rattle.class_code.specs.Operands.{u1_at, u2_at, u4_at, i1_at, i2_at, i4_at, slice_at, target_at, far_target_at}
 use Rattle.class_code.specs.Table.{Prefix, is_within, with_u1, with_u2, constant, load, array_load, store, array_store, operation, binary, increment, math, conversion, branch, are_zero, padding_at, table_rows, span, tableswitch, lookup_row, lookup_rows, lookupswitch, control, call_interface, member, array_kind, new_array, object, wide_increment, widened, wide, multi_array, goto_w, extended, by_opcode, insn_at}
 
 -- what is left has at most so many bytes
@@ -44,16 +45,16 @@ if-insn most false x y h k = k
 -- ---- operands
 
 short-u1 : (most : ℕ) (bytes : List ℕ) → length bytes ≤ most → Short most (u1_at bytes)
-unfolding u1_at
+unfolding byte_at
 short-u1 most [] h = tt
 short-u1 most (byte ∷ bytes) h = omega arith
 
 short-u2 : (most : ℕ) (bytes : List ℕ) → length bytes ≤ most → Short most (u2_at bytes)
-unfolding u2_at
+unfolding number_at
 short-u2 most bytes h = short-if most _ (Err BadCode) (Ok (big_number 2 bytes, drop 2 bytes)) tt (omega (arith, length-drop 2 bytes))
 
 short-u4 : (most : ℕ) (bytes : List ℕ) → length bytes ≤ most → Short most (u4_at bytes)
-unfolding u4_at
+unfolding number_at
 short-u4 most bytes h = short-if most _ (Err BadCode) (Ok (big_number 4 bytes, drop 4 bytes)) tt (omega (arith, length-drop 4 bytes))
 
 short-i1 : (most : ℕ) (bytes : List ℕ) → length bytes ≤ most → Short most (i1_at bytes)
@@ -69,7 +70,7 @@ unfolding i4_at
 short-i4 most bytes h = short-then most (u4_at bytes) _ (short-u4 most bytes h) (λ x le. le)
 
 short-slice : (most size : ℕ) (bytes : List ℕ) → length bytes ≤ most → Short most (slice_at size bytes)
-unfolding slice_at
+unfolding bytes_at
 short-slice most size bytes h = short-if most _ (Err BadCode) (Ok (take size bytes, drop size bytes)) tt (omega (arith, length-drop size bytes))
 
 short-target : (most pc : ℕ) (bytes : List ℕ) → length bytes ≤ most → Short most (target_at pc bytes)

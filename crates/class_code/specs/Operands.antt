@@ -1,14 +1,9 @@
 -- The operands of instructions (JVMS 6.5): each is a value and the bytes after it, or a fault.
-use Rattle.std.specs.Prelude.{◌≡◌, ℕ, ℤ, pos, negsuc, ◌+ℤ◌, ◌-◌, ◌^◌, nat_lt, if◌then◌else◌, List, [], ◌∷◌, length, take, drop, Result, Ok, Err}
+use Rattle.std.specs.Prelude.{◌≡◌, ℕ, ℤ, pos, negsuc, ◌+ℤ◌, ◌-◌, ◌^◌, nat_lt, if◌then◌else◌, List, Result, Ok, Err}
 use Rattle.std.specs.Int.{w8, w16, w32, cast_signed}
-use Rattle.byteorder.specs.Endian.{big_number}
+use Rattle.byte_read.specs.Reading.{◌>>=◌, u1_at as byte_at, number_at, slice_at as bytes_at}
 use Rattle.class_code.specs.declared.refusal.Fault.{Fault}
 use Rattle.class_code.specs.declared.refusal.Fault.TheVariants.{Unsupported, BadCode, Memory}
-
-infixl 10 ◌>>=◌
-abbrev pub ◌>>=◌ : {A B : Type 0} → Result A Fault → (A → Result B Fault) → Result B Fault
-(Ok x) >>= f = f x
-(Err e) >>= f = Err e
 
 -- what a function returned, seen by view, is what reading gives, unless memory ran out
 abbrev pub Gives : {X Y : Type 0} → (X → Y) → Result X Fault → Result Y Fault → Type 0
@@ -19,15 +14,14 @@ Gives view (Err Memory) read = Unit {0}
 
 -- ---- numbers
 
-unfoldable pub u1_at : List ℕ → Result (ℕ × List ℕ) Fault
-u1_at [] = Err BadCode
-u1_at (byte ∷ rest) = Ok (byte, rest)
+abbrev pub u1_at : List ℕ → Result (ℕ × List ℕ) Fault
+u1_at bytes = byte_at BadCode bytes
 
-unfoldable pub u2_at : List ℕ → Result (ℕ × List ℕ) Fault
-u2_at bytes = if nat_lt (length bytes) 2 then Err BadCode else Ok (big_number 2 bytes, drop 2 bytes)
+abbrev pub u2_at : List ℕ → Result (ℕ × List ℕ) Fault
+u2_at bytes = number_at BadCode 2 bytes
 
-unfoldable pub u4_at : List ℕ → Result (ℕ × List ℕ) Fault
-u4_at bytes = if nat_lt (length bytes) 4 then Err BadCode else Ok (big_number 4 bytes, drop 4 bytes)
+abbrev pub u4_at : List ℕ → Result (ℕ × List ℕ) Fault
+u4_at bytes = number_at BadCode 4 bytes
 
 unfoldable pub i1_at : List ℕ → Result (ℤ × List ℕ) Fault
 i1_at bytes = do
@@ -45,8 +39,8 @@ i4_at bytes = do
   Ok (cast_signed w32 number.0, number.1)
 
 -- so many bytes
-unfoldable pub slice_at : ℕ → List ℕ → Result (List ℕ × List ℕ) Fault
-slice_at size bytes = if nat_lt (length bytes) size then Err BadCode else Ok (take size bytes, drop size bytes)
+abbrev pub slice_at : ℕ → List ℕ → Result (List ℕ × List ℕ) Fault
+slice_at size bytes = bytes_at BadCode size bytes
 
 -- ---- targets
 

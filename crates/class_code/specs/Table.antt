@@ -23,7 +23,8 @@ use Rattle.class_code.specs.declared.insn.ArrayKind.{ArrayKind}
 use Rattle.class_code.specs.declared.insn.ArrayKind.TheVariants as array
 use Rattle.class_code.specs.declared.insn.Insn.{Insn}
 use Rattle.class_code.specs.declared.insn.Insn.TheVariants.{Nop, Null, Push, Ldc, Load, Store, Inc, Stack, Bin, Neg, Convert, If, IfCmp, IfRef, Goto, Switch, Return, GetStatic, PutStatic, GetField, PutField, CallVirtual, CallSpecial, CallStatic, CallInterface, New, NewArray, NewRefArray, ArrayLength, ArrayLoad, ArrayStore, Throw, CheckCast, InstanceOf, MultiArray}
-use Rattle.class_code.specs.Operands.{◌>>=◌, u1_at, u2_at, i1_at, i2_at, i4_at, slice_at, target, target_at, far_target_at}
+use Rattle.byte_read.specs.Reading.{◌>>=◌}
+use Rattle.class_code.specs.Operands.{u1_at, u2_at, i1_at, i2_at, i4_at, slice_at, target, target_at, far_target_at}
 
 -- an instruction and the bytes after it, or a fault
 abbrev pub Prefix : Type 0

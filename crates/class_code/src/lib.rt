@@ -19,8 +19,6 @@ mod refusal;
 mod stack;
 mod switch;
 mod table;
-#[cfg(test)]
-mod tests;
 mod wide;
 
 pub use code_list::{CodeList, decode, handlers_fit};

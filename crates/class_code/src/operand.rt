@@ -4,39 +4,26 @@ ghost use Rattle.std.specs.Prelude.{◌≡◌};
 ghost use Rattle.class_code.specs.Operands.{Gives, u1_at, u2_at, u4_at, i1_at, i2_at, i4_at, slice_at, target, target_at, far_target_at};
 
 use crate::refusal::Fault;
-use byteorder::{BigEndian, ByteOrder};
 
 /// A `u1`.
-#[tactic(auto, unfolding(crate::specs::Operands::u1_at))]
 pub(crate) fn u1_at(bytes: &[u8]) -> Result<(u8, &[u8]), Fault>
     ensures { Gives (λ x. (x.0, x.1.now)) result (u1_at bytes.now) }
 {
-    match bytes {
-        [] => Err(Fault::BadCode),
-        [byte, rest @ ..] => Ok((*byte, rest)),
-    }
+    byte_read::u1_at(Fault::BadCode, bytes)
 }
 
 /// A `u2`.
-#[tactic(auto, unfolding(crate::specs::Operands::u2_at))]
 pub(crate) fn u2_at(bytes: &[u8]) -> Result<(u16, &[u8]), Fault>
     ensures { Gives (λ x. (x.0, x.1.now)) result (u2_at bytes.now) }
 {
-    if bytes.len() < 2 {
-        return Err(Fault::BadCode);
-    }
-    Ok((BigEndian::read_u16(bytes), &bytes[2..]))
+    byte_read::u2_at(Fault::BadCode, bytes)
 }
 
 /// A `u4`.
-#[tactic(auto, unfolding(crate::specs::Operands::u4_at))]
 fn u4_at(bytes: &[u8]) -> Result<(u32, &[u8]), Fault>
     ensures { Gives (λ x. (x.0, x.1.now)) result (u4_at bytes.now) }
 {
-    if bytes.len() < 4 {
-        return Err(Fault::BadCode);
-    }
-    Ok((BigEndian::read_u32(bytes), &bytes[4..]))
+    byte_read::u4_at(Fault::BadCode, bytes)
 }
 
 /// A signed byte.
@@ -67,14 +54,10 @@ pub(crate) fn i4_at(bytes: &[u8]) -> Result<(i32, &[u8]), Fault>
 }
 
 /// So many bytes.
-#[tactic(auto, unfolding(crate::specs::Operands::slice_at))]
 pub(crate) fn slice_at(size: usize, bytes: &[u8]) -> Result<(&[u8], &[u8]), Fault>
     ensures { Gives (λ x. (x.0.now, x.1.now)) result (slice_at size bytes.now) }
 {
-    if bytes.len() < size {
-        return Err(Fault::BadCode);
-    }
-    Ok(bytes.split_at(size))
+    byte_read::slice_at(Fault::BadCode, size, bytes)
 }
 
 /// The pc that an offset from an instruction's pc leads to.

@@ -1,7 +1,7 @@
 -- What a call answers, where reading gives each class file its record, and other bytes their refusal.
 use Rattle.std.proofs.Common.{◌≡◌, ◌⊎◌, List, ℕ, Result, Ok, Err, refl, subst, inl, inr}
 use Rattle.std.specs.Prelude.{IfOk, IfErr}
-use Rattle.class_pool.proofs.Steps.{IsBytes}
+use Rattle.byte_read.proofs.Steps.{IsBytes}
 use Rattle.class_file.specs.declared.record.ClassFile.{ClassFile}
 use Rattle.class_file.specs.declared.refusal.ReadRefusal.{ReadRefusal}
 use Rattle.class_file.specs.declared.refusal.ReadRefusal.TheVariants.{NotClass, Version, Truncated, TrailingBytes, BadPool, BadShape, BadDescriptor, TooLarge, Memory}

@@ -7,9 +7,10 @@ use Rattle.class_file.specs.declared.refusal.ReadRefusal.{ReadRefusal}
 use Rattle.class_file.specs.declared.refusal.ReadRefusal.TheVariants.{BadShape}
 use Rattle.class_file.specs.Layout.{u2, u4, counted, Attribute, attribute_bytes}
 use Rattle.class_file.specs.Relation.{FitsU2, FitsAttribute, IsSkippable}
-use Rattle.class_file.specs.Reading.{◌>>=◌, counted_at}
+use Rattle.byte_read.specs.Reading.{◌>>=◌}
+use Rattle.class_file.specs.Reading.{counted_at}
 use Rattle.class_file.specs.ReadingMembers.{text_at, info_at, skip_at, skipped, skip_all_at}
-use Rattle.class_file.proofs.Steps.{under}
+use Rattle.byte_read.proofs.Steps.{under}
 use Rattle.class_file.proofs.Parts.{Reads, itself, u2_reads, u4_reads, slice_reads, first, last, tested, alike, reshaped}
 use Rattle.class_file.proofs.Lists.{counted_reads, split, merged}
 

@@ -3,15 +3,15 @@ use Rattle.std.proofs.Common.{◌≡◌, ℕ, cond, eqb, List, [], ◌++◌, len
 use Rattle.std.proofs.lemmas.Bool.{eqb-true, eqb-false}
 use Rattle.std.proofs.lemmas.List.{nil_from_length}
 use Rattle.class_pool.specs.Pool.{pool_bytes}
-use Rattle.class_pool.proofs.Steps.{IsBytes, Takes, joined}
+use Rattle.byte_read.proofs.Steps.{IsBytes, Takes, joined, bind_then, bind_fails_then, ok_is, no_failure, same_why, then_ok, then_err, under, done, chosen}
 use Rattle.class_file.specs.declared.record.ClassFile.{ClassFile}
 use Rattle.class_file.specs.declared.refusal.ReadRefusal.{ReadRefusal}
 use Rattle.class_file.specs.declared.refusal.ReadRefusal.TheVariants.{TrailingBytes, Version}
 use Rattle.class_file.specs.Layout.{u2, counted, attribute_bytes, member_bytes, Layout, record_of}
 use Rattle.class_file.specs.Relation.{FitsLayout, IsRegular}
-use Rattle.class_file.specs.Reading.{◌>>=◌}
+use Rattle.byte_read.specs.Reading.{◌>>=◌}
 use Rattle.class_file.specs.ReadingClass.{capped, version_at, pool_at, class_head_at, members_at, body_of}
-use Rattle.class_file.proofs.Steps.{bind_then, bind_fails, ok_is, no_failure, same_why, then_ok, then_err, under, done, IsPartFault, chosen}
+use Rattle.class_file.proofs.Steps.{IsPartFault}
 use Rattle.class_file.proofs.Parts.{Taken}
 use Rattle.class_file.proofs.ClassParts.{Numbers, numbers_bytes, IsVersion, version_taken, version_again, IsOther, version_fails, version_refused, a_class_head, members_in, after_version, Suffix, after_bytes, IsAfter, after_reads, a_file}
 
@@ -186,9 +186,9 @@ tailed bytes x why fits at_x e =
 
 pub body_fails : (C : Type 0) (bytes : List ℕ) (why : ReadRefusal) → IsBytes bytes → body_of bytes ≡ Err why → (IsPartFault why → C) → ((major : ℕ) → Version major ≡ why → IsOther bytes major → C) → (IsTailed bytes why → C) → C
 body_fails C bytes why fits e part other tail =
-    bind_fails (parts_of bytes) ended why (sym (body_is bytes) ∙ e)
+    bind_fails_then (parts_of bytes) ended why (sym (body_is bytes) ∙ e)
     (λ at_parts.
-    bind_fails (version_at bytes) _ why at_parts (λ at_version. version_fails C bytes why fits at_version part other)
+    bind_fails_then (version_at bytes) _ why at_parts (λ at_version. version_fails C bytes why fits at_version part other)
     (λ v at_v e_why. part ((after_reads v.0).fails v.1 why (version_taken bytes v fits at_v).takes.rest_fits e_why)))
     (λ x at_x e_why. tail (tailed bytes x why fits at_x e_why))
 

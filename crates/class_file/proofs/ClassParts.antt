@@ -9,7 +9,7 @@ use Rattle.class_pool.specs.declared.refusal.PoolRefusal.TheVariants.{Truncated 
 use Rattle.class_pool.specs.Pool.{Slots, pool_bytes, IsPool, IsPoolAt}
 use Rattle.class_pool.specs.PoolRefused.{IsRefused}
 use Rattle.class_pool.specs.PoolReading.{pool_from}
-use Rattle.class_pool.proofs.Steps.{IsBytes, IsBytes-drop, Takes}
+use Rattle.byte_read.proofs.Steps.{IsBytes, IsBytes-drop, Takes, bind_then, bind_fails_then, ok_is, no_failure, then_ok, under, passes, stops}
 use Rattle.class_pool.proofs.Pools.{from_found, from_read, from_fails}
 use Rattle.class_file.specs.declared.record.ClassFile.{ClassFile}
 use Rattle.class_file.specs.declared.record.Member.{Member}
@@ -19,9 +19,10 @@ use Rattle.class_file.specs.declared.refusal.ReadRefusal.TheVariants.{Version, B
 use Rattle.class_file.specs.Layout.{u2, counted, Attribute, attribute_bytes, MemberLayout, member_bytes, member_of}
 use Rattle.class_file.specs.Relation.{FitsU2}
 use Rattle.class_file.specs.Rules.{are_class_flags, names_class}
-use Rattle.class_file.specs.Reading.{◌>>=◌, u2_at}
+use Rattle.byte_read.specs.Reading.{◌>>=◌}
+use Rattle.class_file.specs.Reading.{u2_at}
 use Rattle.class_file.specs.ReadingClass.{version_at, of_pool, after_pool, pool_at, class_flags_at, class_index_at, interfaces_at, class_head_at, members_at}
-use Rattle.class_file.proofs.Steps.{bind_then, bind_fails, ok_is, no_failure, then_ok, under, is_fault, IsPartFault, passes, stops}
+use Rattle.class_file.proofs.Steps.{is_fault, IsPartFault}
 use Rattle.class_file.proofs.Parts.{Taken, Reads, itself, u2_reads, first, last, tested, reshaped}
 use Rattle.class_file.proofs.Lists.{list_reads, pushed, split, merged}
 use Rattle.class_file.proofs.Attributes.{AreSkipped, skip_after}
@@ -94,7 +95,7 @@ not_in_time major (inr late) = and_right (leb 45 major) (leb major 52) (lt-leb _
 -- how the version fails
 pub version_fails : (C : Type 0) (bytes : List ℕ) (why : ReadRefusal) → IsBytes bytes → version_at bytes ≡ Err why → (IsPartFault why → C) → ((major : ℕ) → Version major ≡ why → IsOther bytes major → C) → C
 version_fails C bytes why fits e part other =
-    bind_fails (numbers_at bytes) versed why (sym (version_is bytes) ∙ e) (λ at_why. part (numbers_read.fails bytes why fits at_why)) (λ v at_v e_why.
+    bind_fails_then (numbers_at bytes) versed why (sym (version_is bytes) ∙ e) (λ at_why. part (numbers_read.fails bytes why fits at_why)) (λ v at_v e_why.
     let t = numbers_read.taken bytes v fits at_v in
     let g = stops (in_time v.0.1) v (Version v.0.1) why e_why in
     let good = subst (λ (n : Numbers). FitsU2 n.0 × FitsU2 n.1) t.value_is t.good in

@@ -4,7 +4,7 @@ use Rattle.std.specs.Prelude.{IsTrue}
 use Rattle.std.specs.List.{AllByRecursion}
 use Rattle.std.proofs.lemmas.Bool.{eqb-true}
 use Rattle.std.proofs.lemmas.List.{append-nil, nil_from_length, map-id}
-use Rattle.class_pool.proofs.Steps.{IsBytes, Takes}
+use Rattle.byte_read.proofs.Steps.{IsBytes, Takes, bind_then, bind_fails_then, ok_is, no_failure, then_ok, under, passes, IsBytes-prefix, IsBytes-after}
 use Rattle.class_pool.specs.Pool.{Slots}
 use Rattle.class_file.specs.declared.record.CodeAttr.{CodeAttr}
 use Rattle.class_file.specs.declared.record.HandlerRow.{HandlerRow}
@@ -13,9 +13,10 @@ use Rattle.class_file.specs.declared.refusal.ReadRefusal.TheVariants.{BadShape}
 use Rattle.class_file.specs.Layout.{u2, u4, counted, Attribute, attribute_bytes, handler_bytes, code_info}
 use Rattle.class_file.specs.Relation.{FitsU2, FitsHandler, FitsCode, IsRegularCode}
 use Rattle.class_file.specs.Rules.{is_code_size, is_handler}
-use Rattle.class_file.specs.Reading.{◌>>=◌, u2_at, u4_at, slice_at}
+use Rattle.byte_read.specs.Reading.{◌>>=◌}
+use Rattle.class_file.specs.Reading.{u2_at, u4_at, slice_at}
 use Rattle.class_file.specs.ReadingMembers.{info_at, skip_all_at, handler_at, handlers_at, code_bytes_at, code_parts, as_shape, code_at}
-use Rattle.class_file.proofs.Steps.{bind_then, bind_fails, ok_is, no_failure, then_ok, under, is_fault, IsPartFault, passes, IsBytes-prefix, IsBytes-after}
+use Rattle.class_file.proofs.Steps.{is_fault, IsPartFault}
 use Rattle.class_file.proofs.Parts.{Taken, Reads, itself, u2_reads, u4_reads, slice_reads, first, tested, last_tested, alike, reshaped, test_first}
 use Rattle.class_file.proofs.Lists.{list_reads, pushed, split, merged}
 use Rattle.class_file.proofs.Attributes.{sized, info_reads, skip_after}
@@ -185,7 +186,7 @@ code_reads pool =
           (then_ok _ (Ok (code_of p, rest)) (ap as_shape (parts_again pool p good.1)) refl);
       fails =
           λ bytes why fits e.
-          bind_fails (info_at bytes) _ why e (λ at_why. info_reads.fails bytes why fits at_why) (λ info at_info e_why.
-          bind_fails (as_shape (code_parts pool info.0)) _ why e_why (λ at_why. shape_fails (code_parts pool info.0) why at_why)
+          bind_fails_then (info_at bytes) _ why e (λ at_why. info_reads.fails bytes why fits at_why) (λ info at_info e_why.
+          bind_fails_then (as_shape (code_parts pool info.0)) _ why e_why (λ at_why. shape_fails (code_parts pool info.0) why at_why)
           (λ code at_code e_done. absurd (no_failure (code, info.1) why e_done)));
     }

@@ -11,10 +11,11 @@ use Rattle.class_file.specs.declared.record.Member.{Member}
 use Rattle.class_file.specs.declared.texts.MethodShape.{MethodShape}
 use Rattle.class_file.specs.declared.refusal.ReadRefusal.{ReadRefusal}
 use Rattle.class_file.specs.declared.refusal.ReadRefusal.TheVariants.{BadShape, BadDescriptor}
-use Rattle.class_file.specs.Reading.{◌>>=◌, u2_at}
+use Rattle.byte_read.specs.Reading.{◌>>=◌}
+use Rattle.class_file.specs.Reading.{u2_at}
 use Rattle.class_file.specs.ReadingMembers.{text_at, head_at, described, field_type, method_type, is_declared, is_field_head, is_method_head, field_head_at, method_head_at}
 use Rattle.class_file.specs.Texts.{shape_of}
-use Rattle.class_file.proofs.Steps.{bind_then, ok_is, passes, then_ok}
+use Rattle.byte_read.proofs.Steps.{bind_then, ok_is, passes, then_ok}
 
 -- ---- texts
 

@@ -18,3 +18,4 @@ pub mod Whole
 pub mod Prefixes
 pub mod MainForm
 pub mod Answers
+pub mod AtOnce

@@ -2,12 +2,13 @@
 use Rattle.std.proofs.Common.{◌≡◌, ℕ, zero, suc, List, [], ◌∷◌, ◌++◌, length, map, Result, Ok, Err, refl, sym, ap, subst, ◌∙◌, append_assoc}
 use Rattle.std.specs.List.{flat_map, AllByRecursion}
 use Rattle.std.proofs.lemmas.List.{append-nil}
-use Rattle.class_pool.proofs.Steps.{IsBytes, joined}
+use Rattle.byte_read.proofs.Steps.{IsBytes, joined, bind_then, bind_fails_then, ok_is, no_failure, then_ok}
 use Rattle.class_file.specs.declared.refusal.ReadRefusal.{ReadRefusal}
 use Rattle.class_file.specs.Layout.{u2, counted}
 use Rattle.class_file.specs.Relation.{FitsU2}
-use Rattle.class_file.specs.Reading.{steps_at, counted_at, one_more, list_at}
-use Rattle.class_file.proofs.Steps.{bind_then, bind_fails, ok_is, no_failure, then_ok, IsPartFault}
+use Rattle.byte_read.specs.Reading.{steps_at, one_more}
+use Rattle.class_file.specs.Reading.{counted_at, list_at}
+use Rattle.class_file.proofs.Steps.{IsPartFault}
 use Rattle.class_file.proofs.Parts.{Taken, Reads, u2_reads, first, last, reshaped}
 
 -- each part is good, seen from the state that those before it left
@@ -50,7 +51,7 @@ module _ {S L : Type 0} {step : S → List ℕ → Result (S × List ℕ) ReadRe
   unfolding steps_at
   steps_fail s zero bytes why fits e = absurd (no_failure (s, bytes) why e)
   steps_fail s (suc count) bytes why fits e =
-      bind_fails (step s bytes) (λ y. steps_at step y.0 count y.1) why e (λ at_why. (one s).fails bytes why fits at_why)
+      bind_fails_then (step s bytes) (λ y. steps_at step y.0 count y.1) why e (λ at_why. (one s).fails bytes why fits at_why)
       (λ y at_y e_why. steps_fail y.0 count y.1 why ((one s).taken bytes y fits at_y).takes.rest_fits e_why)
 
   steps_reads : (s : S) (count : ℕ) → Reads (steps_at step s count) (flat_map text) (after next s) (AreGood s count)

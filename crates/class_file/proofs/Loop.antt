@@ -1,8 +1,10 @@
--- Steps one after the other, as a loop does them.
+-- A refusal in one of the steps that a loop does.
 use Rattle.std.proofs.Common.{◌≡◌, ℕ, suc, ◌-◌, ◌+◌, ◌≤◌, ◌<◌, List, [], ◌∷◌, ◌++◌, Result, Ok, Err, refl, sym, subst, ◌∙◌, arith}
 use Rattle.class_file.specs.declared.refusal.ReadRefusal.{ReadRefusal}
 use Rattle.class_file.specs.declared.refusal.ReadRefusal.TheVariants.{NotClass, Version, Truncated, TrailingBytes, BadPool, BadShape, BadDescriptor, TooLarge, Memory}
-use Rattle.class_file.specs.Reading.{◌>>=◌, Gives, steps_at, one_more}
+use Rattle.byte_read.specs.Reading.{◌>>=◌, steps_at, one_more}
+use Rattle.byte_read.proofs.Loop.{one_left}
+use Rattle.class_file.specs.Reading.{Gives}
 
 -- a refusal of a first step is that of the whole
 pub passed : {A B : Type 0} (why : ReadRefusal) (read : Result A ReadRefusal) (f : A → Result B ReadRefusal) → Gives (λ x. x) (Err why) read → Gives (λ x. x) (Err why) (read >>= f)
@@ -18,34 +20,12 @@ passed (TooLarge size) read f e = rw e refl
 
 -- ---- steps
 
-pub goes_on : {A : Type 0} (step : A → List ℕ → Result (A × List ℕ) ReadRefusal) (before : A) (count i : ℕ) (bytes : List ℕ) (next : A) (after : List ℕ) (total : Result (A × List ℕ) ReadRefusal) → i < count
-    → step before bytes ≡ Ok (next, after) → steps_at step before (count - i) bytes ≡ total → steps_at step next (count - (i + 1)) after ≡ total
-unfolding steps_at
-goes_on step before count i bytes next after total lt e so_far =
-    let k : count - i ≡ suc (count - (i + 1)) = omega arith in
-    let one : steps_at step before (count - i) bytes ≡ steps_at step next (count - (i + 1)) after = rw (k, e) refl in
-    sym one ∙ so_far
-
 pub ends : {A : Type 0} (why : ReadRefusal) (step : A → List ℕ → Result (A × List ℕ) ReadRefusal) (before : A) (count i : ℕ) (bytes : List ℕ) (total : Result (A × List ℕ) ReadRefusal) → i < count
     → Gives (λ x. x) (Err why) (step before bytes) → steps_at step before (count - i) bytes ≡ total → Gives (λ x. x) (Err why) total
-unfolding steps_at
 ends why step before count i bytes total lt given so_far =
-    let k : count - i ≡ suc (count - (i + 1)) = omega arith in
-    subst (Gives (λ x. x) (Err why)) (rw k at so_far) (passed why (step before bytes) (λ next. steps_at step next.0 (count - (i + 1)) next.1) given)
-
-pub is_done : {A : Type 0} (step : A → List ℕ → Result (A × List ℕ) ReadRefusal) (before : A) (count i : ℕ) (bytes : List ℕ) (total : Result (A × List ℕ) ReadRefusal) → count ≤ i → steps_at step before (count - i) bytes ≡ total → total ≡ Ok (before, bytes)
-unfolding steps_at
-is_done step before count i bytes total le so_far =
-    let k : count - i ≡ 0 = omega arith in
-    let one : steps_at step before (count - i) bytes ≡ Ok (before, bytes) = rw k refl in
-    sym so_far ∙ one
+    subst (Gives (λ x. x) (Err why)) (sym (one_left step before count i bytes lt) ∙ so_far) (passed why (step before bytes) (λ next. steps_at step next.0 (count - (i + 1)) next.1) given)
 
 -- ---- items
-
-pub item_goes_on : {A : Type 0} (item : List A → List ℕ → Result (A × List ℕ) ReadRefusal) (earlier : List A) (count i : ℕ) (bytes : List ℕ) (next : A) (after : List ℕ) (total : Result (List A × List ℕ) ReadRefusal) → i < count
-    → item earlier bytes ≡ Ok (next, after) → steps_at (one_more item) earlier (count - i) bytes ≡ total → steps_at (one_more item) (earlier ++ next ∷ []) (count - (i + 1)) after ≡ total
-item_goes_on item earlier count i bytes next after total lt e so_far =
-    goes_on (one_more item) earlier count i bytes (earlier ++ next ∷ []) after total lt (rw e refl) so_far
 
 pub item_ends : {A : Type 0} (why : ReadRefusal) (item : List A → List ℕ → Result (A × List ℕ) ReadRefusal) (earlier : List A) (count i : ℕ) (bytes : List ℕ) (total : Result (List A × List ℕ) ReadRefusal) → i < count
     → Gives (λ x. x) (Err why) (item earlier bytes) → steps_at (one_more item) earlier (count - i) bytes ≡ total → Gives (λ x. x) (Err why) total

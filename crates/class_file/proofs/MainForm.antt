@@ -1,6 +1,6 @@
 -- Class files of one main are class files whose record has the form.
 use Rattle.std.proofs.Common.{◌≡◌, ◌≢◌, ℕ, ◌≤◌, List, length, take, Ok, Err, ◌↔◌}
-use Rattle.class_pool.proofs.Steps.{IsBytes}
+use Rattle.byte_read.proofs.Steps.{IsBytes}
 use Rattle.class_file.specs.declared.record.ClassFile.{ClassFile}
 use Rattle.class_file.specs.declared.refusal.ReadRefusal.TheVariants.{NotClass}
 use Rattle.class_file.specs.Layout.{magic}

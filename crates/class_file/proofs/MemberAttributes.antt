@@ -7,7 +7,7 @@ use Rattle.std.proofs.lemmas.Bool.{eqb-true}
 use Rattle.std.proofs.lemmas.List.{append-nil, take_all}
 use Rattle.byteorder.specs.Endian.{big_number}
 use Rattle.byteorder.specs.Numbers.{big_number-reads_back, big_from-lt}
-use Rattle.class_pool.proofs.Steps.{back_2, true_false}
+use Rattle.byte_read.proofs.Steps.{back_2, true_false, under, IsBytes-after}
 use Rattle.class_pool.specs.Pool.{Slots, utf8_at}
 use Rattle.class_file.specs.declared.record.CodeAttr.{CodeAttr}
 use Rattle.class_file.specs.declared.refusal.ReadRefusal.{ReadRefusal}
@@ -15,9 +15,8 @@ use Rattle.class_file.specs.declared.refusal.ReadRefusal.TheVariants.{BadShape}
 use Rattle.class_file.specs.Layout.{u2, u4, counted, attribute_bytes, MemberAttribute, Coded, Valued, Skipped, plain, codes_in, values_in, first as first_item}
 use Rattle.class_file.specs.Relation.{FitsU2, FitsMemberAttribute, IsFieldAttribute, IsMethodAttribute}
 use Rattle.class_file.specs.Rules.{is_named}
-use Rattle.class_file.specs.Reading.{◌>>=◌}
+use Rattle.byte_read.specs.Reading.{◌>>=◌}
 use Rattle.class_file.specs.ReadingMembers.{text_at, info_at, value_at, field_attribute_at, method_attribute_at, field_attributes_at, method_attributes_at}
-use Rattle.class_file.proofs.Steps.{under, IsBytes-after}
 use Rattle.class_file.proofs.Parts.{Reads, itself, first, last, tested, alike, reshaped, reshaped_bytes, test_first, on_either, IsWay, one_of, barred}
 use Rattle.class_file.proofs.Lists.{AllFrom, after, counted_reads, split_off, merged_with, unzipped, zipped}
 use Rattle.class_file.proofs.Attributes.{sized, text_reads, info_reads}

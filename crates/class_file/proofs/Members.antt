@@ -20,7 +20,8 @@ use Rattle.class_file.specs.Relation.{FitsU2, FitsMember, IsRegularField, IsRegu
 use Rattle.class_file.specs.Rules.{is_native, is_abstract, has_one_access, fits_interface_field, fits_interface_method, fits_abstract, fits_special_name, fits_constructor, fits_initialiser, fits_slots, is_same_member}
 use Rattle.class_file.specs.Reading.{list_at}
 use Rattle.class_file.specs.ReadingMembers.{head_at, described, field_type, method_type, is_declared, is_field_head, is_method_head, field_head_at, method_head_at, field_at, method_at, fields_at, methods_at}
-use Rattle.class_file.proofs.Steps.{no_failure, ok_is, is_fault, IsPartFault}
+use Rattle.byte_read.proofs.Steps.{no_failure, ok_is}
+use Rattle.class_file.proofs.Steps.{is_fault, IsPartFault}
 use Rattle.class_file.proofs.Parts.{Reads, itself, u2_reads, first, last, checked, reshaped}
 use Rattle.class_file.proofs.Lists.{pushed, list_reads, split_off, merged_with, unzipped, zipped}
 use Rattle.class_file.proofs.Attributes.{text_reads}

@@ -1,12 +1,14 @@
 -- Readers of parts: each takes one encoding of a part that is good, and every such encoding is read.
 use Rattle.std.proofs.Common.{◌≡◌, ◌⊎◌, ℕ, ◌^◌, ◌<◌, Bool, true, false, cond, List, ◌++◌, length, Result, Ok, Err, refl, sym, ap, subst, ◌∙◌, append_assoc, inl, inr}
 use Rattle.std.specs.Prelude.{IsTrue}
-use Rattle.class_pool.proofs.Steps.{IsBytes, Takes, joined, true_false}
+use Rattle.byte_read.proofs.Steps.{IsBytes, Takes, joined, true_false, bind_then, bind_fails_then, ok_is, no_failure, then_ok, under, done, IsBytes-prefix, passes, stops, u2_takes, u2_again, u4_takes, u4_again, slice_takes, slice_again}
 use Rattle.class_file.specs.declared.refusal.ReadRefusal.{ReadRefusal}
+use Rattle.class_file.specs.declared.refusal.ReadRefusal.TheVariants.{Truncated}
 use Rattle.class_file.specs.Layout.{u2, u4}
 use Rattle.class_file.specs.Relation.{FitsU2}
-use Rattle.class_file.specs.Reading.{◌>>=◌, u2_at, u4_at, slice_at}
-use Rattle.class_file.proofs.Steps.{bind_then, bind_fails, ok_is, no_failure, then_ok, under, done, IsBytes-prefix, IsPartFault, is_fault, passes, stops, u2_takes, u2_fails, u2_again, u4_takes, u4_fails, u4_again, slice_takes, slice_fails, slice_again}
+use Rattle.byte_read.specs.Reading.{◌>>=◌}
+use Rattle.class_file.specs.Reading.{u2_at, u4_at, slice_at}
+use Rattle.class_file.proofs.Steps.{IsPartFault, is_fault, u2_fails, u4_fails, slice_fails}
 
 -- what a reader took from the prefix: a good part, and its value
 pub record Taken {A L : Type 0} (text : L → List ℕ) (value : L → A) (Good : L → Type 0) (bytes : List ℕ) (x : A × List ℕ) : Type 0 where
@@ -31,9 +33,9 @@ u2_reads =
     record {
       taken =
           λ bytes x fits e.
-          let t = u2_takes bytes x fits e in
+          let t = u2_takes Truncated bytes x fits e in
           record { part = x.0; takes = t.0; good = t.1; value_is = refl };
-      again = u2_again;
+      again = u2_again Truncated;
       fails = λ bytes why fits e. u2_fails bytes why e;
     }
 
@@ -42,9 +44,9 @@ u4_reads =
     record {
       taken =
           λ bytes x fits e.
-          let t = u4_takes bytes x fits e in
+          let t = u4_takes Truncated bytes x fits e in
           record { part = x.0; takes = t.0; good = t.1; value_is = refl };
-      again = u4_again;
+      again = u4_again Truncated;
       fails = λ bytes why fits e. u4_fails bytes why e;
     }
 
@@ -53,9 +55,9 @@ slice_reads size =
     record {
       taken =
           λ bytes x fits e.
-          let t = slice_takes size bytes x fits e in
+          let t = slice_takes Truncated size bytes x fits e in
           record { part = x.0; takes = t.0; good = t.1; value_is = refl };
-      again = λ text rest good. slice_again text rest size good;
+      again = λ text rest good. slice_again Truncated text rest size good;
       fails = λ bytes why fits e. slice_fails size bytes why e;
     }
 
@@ -89,7 +91,7 @@ module _ {A B L M : Type 0} {read : List ℕ → Result (A × List ℕ) ReadRefu
             ∙ then_ok (λ y. next y.0 y.1) (Ok (value2 (value p.0) p.1, rest)) (one.again p.0 (text2 p.1 ++ rest) good.0) ((others (value p.0)).again p.1 rest good.1);
         fails =
             λ bytes why fits e.
-            bind_fails (read bytes) (λ y. next y.0 y.1) why e (λ at_why. one.fails bytes why fits at_why)
+            bind_fails_then (read bytes) (λ y. next y.0 y.1) why e (λ at_why. one.fails bytes why fits at_why)
             (λ y at_y e_why. (others y.0).fails y.1 why (one.taken bytes y fits at_y).takes.rest_fits e_why);
       }
 
@@ -107,7 +109,7 @@ module _ {A B L : Type 0} {read : List ℕ → Result (A × List ℕ) ReadRefusa
         again = λ part rest good. then_ok (λ y. Ok (view y.0, y.1)) (Ok (view (value part), rest)) (one.again part rest good) refl;
         fails =
             λ bytes why fits e.
-            bind_fails (read bytes) (λ y. Ok (view y.0, y.1)) why e (λ at_why. one.fails bytes why fits at_why)
+            bind_fails_then (read bytes) (λ y. Ok (view y.0, y.1)) why e (λ at_why. one.fails bytes why fits at_why)
             (λ y at_y e_why. absurd (no_failure (view y.0, y.1) why e_why));
       }
 
@@ -129,7 +131,7 @@ module _ {A L : Type 0} {read : List ℕ → Result (A × List ℕ) ReadRefusal}
             then_ok (λ y. cond (test y.0) (Ok y) (Err d)) (Ok (value part, rest)) (one.again part rest good.0) (rw good.1 refl);
         fails =
             λ bytes why fits e.
-            bind_fails (read bytes) (λ y. cond (test y.0) (Ok y) (Err d)) why e (λ at_why. one.fails bytes why fits at_why)
+            bind_fails_then (read bytes) (λ y. cond (test y.0) (Ok y) (Err d)) why e (λ at_why. one.fails bytes why fits at_why)
             (λ y at_y e_why. subst IsPartFault (stops (test y.0) y d why e_why).1 is);
       }
 
@@ -268,7 +270,7 @@ checked {A = A} {B = B} {read = read} {text = text} {value = value} {Good = Good
           (then_ok (λ b. cond (test (value part) b) (Ok (value part, rest)) (Err d)) (Ok (value part, rest)) good.2 (rw good.3 refl));
       fails =
           λ bytes why fits e.
-          bind_fails (read bytes) _ why e (λ at_why. one.fails bytes why fits at_why) (λ y at_y e_b.
-          bind_fails (check y.0) (λ b. cond (test y.0 b) (Ok y) (Err d)) why e_b (λ at_why. faults y.0 why at_why)
+          bind_fails_then (read bytes) _ why e (λ at_why. one.fails bytes why fits at_why) (λ y at_y e_b.
+          bind_fails_then (check y.0) (λ b. cond (test y.0 b) (Ok y) (Err d)) why e_b (λ at_why. faults y.0 why at_why)
           (λ b at_b e_why. subst IsPartFault (stops (test y.0 b) y d why e_why).1 is));
     }

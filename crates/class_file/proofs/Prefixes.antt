@@ -3,7 +3,7 @@ use Rattle.std.proofs.Common.{◌≡◌, ◌⊎◌, ℕ, ◌<◌, ◌≤◌, Boo
 use Rattle.std.proofs.lemmas.Bool.{cases_lt, lt-ltb, le-ltb, ne_eqb}
 use Rattle.std.proofs.lemmas.List.{take-append-le, take-append-drop, take_at, drop-append-le}
 use Rattle.byteorder.specs.Endian.{big_number}
-use Rattle.class_pool.proofs.Steady.{Stands}
+use Rattle.byte_read.proofs.Steady.{Persists}
 use Rattle.class_file.specs.declared.record.ClassFile.{ClassFile}
 use Rattle.class_file.specs.declared.refusal.ReadRefusal.{ReadRefusal}
 use Rattle.class_file.specs.declared.refusal.ReadRefusal.TheVariants.{NotClass, Version, Truncated, TrailingBytes, BadPool, BadShape, BadDescriptor, TooLarge, Memory}
@@ -13,7 +13,7 @@ use Rattle.class_file.specs.Reading.{u2_at}
 use Rattle.class_file.specs.ReadingClass.{capped, version_at, body_of, class_of}
 use Rattle.class_file.specs.Refused.{HasOtherVersion, IsRefused}
 use Rattle.class_file.specs.Prefixes.{IsFault}
-use Rattle.class_file.proofs.Steps.{no_failure, same_why, failed, then_ok, then_err}
+use Rattle.byte_read.proofs.Steps.{number_short, number_long, no_failure, same_why, failed, then_ok, then_err}
 use Rattle.class_file.proofs.Body.{parts_of, ended, body_is}
 use Rattle.class_file.proofs.Whole.{IsBegun, class_rest, ways, file_again, refused_so}
 use Rattle.class_file.proofs.PrefixesReaders.{parts_steady}
@@ -26,7 +26,7 @@ data Prefix (prefix rest : List ℕ) : Type 0 where
   faulty : (why : ReadRefusal) → body_of prefix ≡ Err why → body_of (prefix ++ rest) ≡ Err why → Prefix prefix rest
   full : (x : ClassFile × List ℕ) → body_of prefix ≡ ended x → body_of (prefix ++ rest) ≡ ended (x.0, x.1 ++ rest) → Prefix prefix rest
 
-prefix_by : (prefix rest : List ℕ) (r longer : Result (ClassFile × List ℕ) ReadRefusal) → parts_of prefix ≡ r → parts_of (prefix ++ rest) ≡ longer → Stands Truncated rest r longer → Prefix prefix rest
+prefix_by : (prefix rest : List ℕ) (r longer : Result (ClassFile × List ℕ) ReadRefusal) → parts_of prefix ≡ r → parts_of (prefix ++ rest) ≡ longer → Persists Truncated rest r longer → Prefix prefix rest
 prefix_by prefix rest (Ok x) longer e h stands =
     full x (body_is prefix ∙ then_ok ended (ended x) e refl) (body_is (prefix ++ rest) ∙ then_ok ended (ended (x.0, x.1 ++ rest)) (h ∙ stands) refl)
 prefix_by prefix rest (Err why) longer e h (inl missed) =
@@ -35,7 +35,7 @@ prefix_by prefix rest (Err why) longer e h (inr same) =
     faulty why (body_is prefix ∙ then_err ended e) (body_is (prefix ++ rest) ∙ then_err ended (h ∙ same))
 
 prefix_is : (prefix rest : List ℕ) → Prefix prefix rest
-prefix_is prefix rest = prefix_by prefix rest (parts_of prefix) (parts_of (prefix ++ rest)) refl refl (parts_steady.stands prefix rest)
+prefix_is prefix rest = prefix_by prefix rest (parts_of prefix) (parts_of (prefix ++ rest)) refl refl (parts_steady.persists prefix rest)
 
 -- ---- what is said after the magic
 
@@ -141,21 +141,13 @@ prefixes_of_truncated prefix rest e long =
 
 -- ---- versions
 
-u2_short : (bytes : List ℕ) → length bytes < 2 → u2_at bytes ≡ Err Truncated
-unfolding u2_at
-u2_short bytes short = rw (lt-ltb _ _ short) refl
-
-u2_long : (bytes : List ℕ) → 2 ≤ length bytes → u2_at bytes ≡ Ok (big_number 2 bytes, drop 2 bytes)
-unfolding u2_at
-u2_long bytes long = rw (le-ltb _ _ long) refl
-
 -- bytes that end within the version
-version_short : (bytes : List ℕ) → length bytes < 4 → version_at bytes ≡ Err Truncated
+pub version_short : (bytes : List ℕ) → length bytes < 4 → version_at bytes ≡ Err Truncated
 unfolding version_at
 version_short bytes short =
     elim (cases_lt (length bytes) 2) [
-      | inl none ↦ then_err _ (u2_short bytes none)
-      | inr some ↦ then_ok _ (Err Truncated) (u2_long bytes some) (then_err _ (u2_short (drop 2 bytes) (omega (arith, short, length-drop 2 bytes))))
+      | inl none ↦ then_err _ (number_short Truncated 2 bytes none)
+      | inr some ↦ then_ok _ (Err Truncated) (number_long Truncated 2 bytes some) (then_err _ (number_short Truncated 2 (drop 2 bytes) (omega (arith, short, length-drop 2 bytes))))
     ]
 
 body_short : (bytes : List ℕ) → length bytes < 4 → body_of bytes ≡ Err Truncated

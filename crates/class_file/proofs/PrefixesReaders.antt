@@ -7,54 +7,38 @@ use Rattle.class_pool.specs.declared.refusal.PoolRefusal.{PoolRefusal}
 use Rattle.class_pool.specs.declared.refusal.PoolRefusal.TheVariants.{Truncated as PoolTruncated}
 use Rattle.class_pool.specs.Pool.{Slots, utf8_at, is_utf8_at}
 use Rattle.class_pool.specs.PoolReading.{pool_at as slots_at, pool_from}
-use Rattle.class_pool.proofs.Steady.{Stands, IsSteady, followed, done, failing, either, first, last, tested, settled, alike, number, slice, pool_steady as slots_steady}
+use Rattle.byte_read.proofs.Steady.{Persists, IsSteady, done, failing, either, first, last, tested, settled, alike, number_steady, slice_steady, steps_steady, one_more_steady}
+use Rattle.class_pool.proofs.Steady.{pool_steady as slots_steady}
 use Rattle.class_file.specs.declared.refusal.ReadRefusal.{ReadRefusal}
 use Rattle.class_file.specs.declared.refusal.ReadRefusal.TheVariants.{Version, Truncated, BadShape}
 use Rattle.class_file.specs.declared.record.Member.{Member}
 use Rattle.class_file.specs.Rules.{is_abstract, is_named, are_class_flags, names_class}
-use Rattle.class_file.specs.Reading.{◌>>=◌, u2_at, u4_at, slice_at, steps_at, counted_at, list_at}
+use Rattle.byte_read.specs.Reading.{◌>>=◌, steps_at}
+use Rattle.class_file.specs.Reading.{u2_at, u4_at, slice_at, counted_at, list_at}
 use Rattle.class_file.specs.ReadingMembers.{text_at, info_at, skip_at, skipped, skip_all_at, code_parts, as_shape, code_at, value_at, field_attribute_at, method_attribute_at, field_attributes_at, method_attributes_at, head_at, field_type, method_type, is_declared, is_field_head, is_method_head, field_head_at, method_head_at, field_at, method_at, fields_at, methods_at}
 use Rattle.class_file.specs.ReadingClass.{version_at, of_pool, after_pool, pool_at, class_flags_at, class_index_at, interfaces_at, class_head_at, members_at}
-use Rattle.class_file.proofs.Steps.{under}
+use Rattle.byte_read.proofs.Steps.{under}
 use Rattle.class_file.proofs.ClassParts.{a_class_head, Numbers, a_file, after_version}
 use Rattle.class_file.proofs.Body.{parts_of}
 
--- ---- numbers, slices and lists
+-- ---- lists
 
-u2_steady : IsSteady Truncated u2_at
-unfolding u2_at
-u2_steady = number 2
-
-u4_steady : IsSteady Truncated u4_at
-unfolding u4_at
-u4_steady = number 4
-
-slice_steady : (size : ℕ) → IsSteady Truncated (slice_at size)
-unfolding slice_at
-slice_steady size = slice size
-
-module _ {A : Type 0} {step : A → List ℕ → Result (A × List ℕ) ReadRefusal} (one : (before : A) → IsSteady Truncated (step before)) where
-  steps_steady : (before : A) (count : ℕ) → IsSteady Truncated (steps_at step before count)
-  unfolding steps_at
-  steps_steady before zero = done before
-  steps_steady before (suc count) = first (one before) (λ next. steps_steady next count)
-
-  counted_steady : (before : A) → IsSteady Truncated (counted_at step before)
-  unfolding counted_at
-  counted_steady before = first u2_steady (λ count. steps_steady before count)
+counted_steady : {A : Type 0} {step : A → List ℕ → Result (A × List ℕ) ReadRefusal} → ((before : A) → IsSteady Truncated (step before)) → (before : A) → IsSteady Truncated (counted_at step before)
+unfolding counted_at
+counted_steady one before = first (number_steady 2) (λ count. steps_steady one before count)
 
 list_steady : {A : Type 0} {item : List A → List ℕ → Result (A × List ℕ) ReadRefusal} → ((earlier : List A) → IsSteady Truncated (item earlier)) → IsSteady Truncated (list_at item)
-list_steady one = counted_steady (λ earlier. last (one earlier) (λ a. earlier ++ a ∷ [])) []
+list_steady one = counted_steady (one_more_steady one) []
 
 -- ---- attributes as such
 
 text_steady : (pool : Slots) → IsSteady Truncated (text_at pool)
 unfolding text_at
-text_steady pool = tested u2_steady (λ index. is_utf8_at pool index) BadShape
+text_steady pool = tested (number_steady 2) (λ index. is_utf8_at pool index) BadShape
 
 info_steady : IsSteady Truncated info_at
 unfolding info_at
-info_steady = first u4_steady (λ size. slice_steady size)
+info_steady = first (number_steady 4) (λ size. slice_steady size)
 
 skip_steady : {A : Type 0} (pool : Slots) (value : A) → IsSteady Truncated (λ bytes. skip_at pool bytes >>= λ rest. Ok (value, rest))
 unfolding skip_at
@@ -103,7 +87,7 @@ method_attributes_steady pool abstract = tested (counted_steady (method_attribut
 head_steady : (pool : Slots) → IsSteady Truncated (head_at pool)
 unfolding head_at
 head_steady pool =
-    first u2_steady (λ flags. first (text_steady pool) (λ name. last (text_steady pool) (λ descriptor. record { flags = flags; name = name; descriptor = descriptor })))
+    first (number_steady 2) (λ flags. first (text_steady pool) (λ name. last (text_steady pool) (λ descriptor. record { flags = flags; name = name; descriptor = descriptor })))
 
 field_head_steady : (class_flags : ℕ) (pool : Slots) (earlier : List Member) → IsSteady Truncated (field_head_at class_flags pool earlier)
 unfolding field_head_at
@@ -142,11 +126,11 @@ methods_steady class_flags pool = list_steady (method_steady class_flags pool)
 version_steady : IsSteady Truncated version_at
 unfolding version_at
 version_steady =
-    first u2_steady (λ minor. first u2_steady (λ major. either (leb 45 major && leb major 52) (done (minor, major)) (failing (Version major))))
+    first (number_steady 2) (λ minor. first (number_steady 2) (λ major. either (leb 45 major && leb major 52) (done (minor, major)) (failing (Version major))))
 
 -- where the pool ends is told as a place in the bytes
-pool_holds : (bytes more : List ℕ) (r longer : Result (Slots × List ℕ) PoolRefusal) → Stands PoolTruncated more r longer
-    → Stands Truncated more (after_pool bytes (followed r (λ pool. Ok (pool.0, length bytes - length pool.1)))) (after_pool (bytes ++ more) (followed longer (λ pool. Ok (pool.0, length (bytes ++ more) - length pool.1))))
+pool_holds : (bytes more : List ℕ) (r longer : Result (Slots × List ℕ) PoolRefusal) → Persists PoolTruncated more r longer
+    → Persists Truncated more (after_pool bytes (r >>= λ pool. Ok (pool.0, length bytes - length pool.1))) (after_pool (bytes ++ more) (longer >>= λ pool. Ok (pool.0, length (bytes ++ more) - length pool.1)))
 pool_holds bytes more (Ok x) longer h =
     let offset : length (bytes ++ more) - length (x.1 ++ more) ≡ length bytes - length x.1 = omega (arith, length-append bytes more, length-append x.1 more) in
     let within : length bytes - length x.1 ≤ length bytes = omega arith in
@@ -156,15 +140,15 @@ pool_holds bytes more (Err why) longer (inr e) = inr (rw e refl)
 
 pool_steady : IsSteady Truncated pool_at
 unfolding pool_at pool_from
-pool_steady = record { stands = λ bytes more. pool_holds bytes more (slots_at bytes) (slots_at (bytes ++ more)) (slots_steady.stands bytes more) }
+pool_steady = record { persists = λ bytes more. pool_holds bytes more (slots_at bytes) (slots_at (bytes ++ more)) (slots_steady.persists bytes more) }
 
 class_flags_steady : IsSteady Truncated class_flags_at
 unfolding class_flags_at
-class_flags_steady = tested u2_steady (λ flags. are_class_flags flags) BadShape
+class_flags_steady = tested (number_steady 2) (λ flags. are_class_flags flags) BadShape
 
 class_index_steady : (pool : Slots) → IsSteady Truncated (class_index_at pool)
 unfolding class_index_at
-class_index_steady pool = tested u2_steady (λ index. names_class pool index) BadShape
+class_index_steady pool = tested (number_steady 2) (λ index. names_class pool index) BadShape
 
 interfaces_steady : (pool : Slots) → IsSteady Truncated (interfaces_at pool)
 unfolding interfaces_at
@@ -185,6 +169,6 @@ after_steady : (version : Numbers) → IsSteady Truncated (after_version version
 after_steady version =
     first pool_steady (λ pool. first (class_head_steady pool) (λ head. last (members_steady head.flags pool) (λ members. a_file version pool head members)))
 
--- all that stands between the magic and the end
+-- all that persists between the magic and the end
 pub parts_steady : IsSteady Truncated parts_of
 parts_steady = first version_steady after_steady

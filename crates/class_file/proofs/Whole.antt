@@ -5,7 +5,7 @@ use Rattle.std.proofs.Math.Nat.{min-eq_left}
 use Rattle.std.proofs.lemmas.Bool.{ltb-true, ltb-false, lt-ltb, le-ltb, ne_eqb, false_from_ne_true}
 use Rattle.std.proofs.lemmas.List.{append-nil, take-append-drop, take_at, drop_at}
 use Rattle.std.proofs.lemmas.Slice.Eq.{bytes_eq-Decides}
-use Rattle.class_pool.proofs.Steps.{IsBytes, IsBytes-drop}
+use Rattle.byte_read.proofs.Steps.{IsBytes, IsBytes-drop, ok_is, no_failure, same_why, failed, chosen}
 use Rattle.class_file.specs.declared.record.ClassFile.{ClassFile}
 use Rattle.class_file.specs.declared.refusal.ReadRefusal.{ReadRefusal}
 use Rattle.class_file.specs.declared.refusal.ReadRefusal.TheVariants.{NotClass, Version, Truncated, TrailingBytes, BadPool, BadShape, BadDescriptor, TooLarge, Memory}
@@ -13,7 +13,7 @@ use Rattle.class_file.specs.Layout.{u2, magic, Layout}
 use Rattle.class_file.specs.Relation.{largest, IsLaidOut, IsClassFile}
 use Rattle.class_file.specs.ReadingClass.{capped, body_of, class_of}
 use Rattle.class_file.specs.Refused.{HasOtherVersion, HasTail, IsRefused}
-use Rattle.class_file.proofs.Steps.{ok_is, no_failure, same_why, failed, IsPartFault, chosen}
+use Rattle.class_file.proofs.Steps.{IsPartFault}
 use Rattle.class_file.proofs.ClassParts.{IsOther}
 use Rattle.class_file.proofs.Body.{body_bytes, ended, body_again, body_taken, IsTailed, body_fails, body_refused}
 
@@ -24,7 +24,7 @@ pub record IsBegun (bytes : List ℕ) : Type 0 where
   pub size : length bytes ≤ largest
   pub begins : take 4 bytes ≡ magic
 
-is_magic : (bytes : List ℕ) → bytes_eq (take 4 bytes) magic ≡ true → take 4 bytes ≡ magic
+pub is_magic : (bytes : List ℕ) → bytes_eq (take 4 bytes) magic ≡ true → take 4 bytes ≡ magic
 is_magic bytes e = (bytes_eq-Decides (take 4 bytes) magic).0 e
 
 pub class_rest : (bytes : List ℕ) → IsBegun bytes → class_of bytes ≡ body_of (drop 4 bytes)

@@ -13,7 +13,8 @@ use Rattle.class_file.specs.declared.refusal.ReadRefusal.TheVariants.{NotClass, 
 use Rattle.class_file.specs.Layout.{magic}
 use Rattle.class_file.specs.Rules.{are_class_flags, names_class}
 use Rattle.class_file.specs.Relation.{largest}
-use Rattle.class_file.specs.Reading.{◌>>=◌, u2_at, list_at}
+use Rattle.byte_read.specs.Reading.{◌>>=◌}
+use Rattle.class_file.specs.Reading.{u2_at, list_at}
 use Rattle.class_file.specs.ReadingMembers.{fields_at, methods_at, skip_all_at}
 
 -- a length in its field, or the field's greatest number
@@ -73,6 +74,12 @@ members_at class_flags pool bytes = do
   methods ← methods_at class_flags pool fields.1
   rest ← skip_all_at pool methods.1
   Ok ((fields.0, methods.0), rest)
+
+-- the length, the magic and the version
+unfoldable pub start_of : List ℕ → Result ((ℕ × ℕ) × List ℕ) ReadRefusal
+start_of bytes =
+    if nat_lt largest (length bytes) then Err (TooLarge (capped (length bytes)))
+    else (if bytes_eq (take 4 bytes) magic then version_at (drop 4 bytes) else Err NotClass)
 
 -- what follows the magic
 unfoldable pub body_of : List ℕ → Result ClassFile ReadRefusal

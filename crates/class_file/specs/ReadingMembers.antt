@@ -11,9 +11,10 @@ use Rattle.class_file.specs.declared.record.CodeAttr.{CodeAttr}
 use Rattle.class_file.specs.declared.record.HandlerRow.{HandlerRow}
 use Rattle.class_file.specs.declared.record.Member.{Member}
 use Rattle.class_file.specs.declared.refusal.ReadRefusal.{ReadRefusal}
-use Rattle.class_file.specs.declared.refusal.ReadRefusal.TheVariants.{BadShape, BadDescriptor}
+use Rattle.class_file.specs.declared.refusal.ReadRefusal.TheVariants.{BadShape, BadDescriptor, Memory}
 use Rattle.class_file.specs.Rules.{is_native, is_abstract, is_named, has_one_access, fits_interface_field, fits_interface_method, fits_abstract, fits_special_name, fits_constructor, fits_initialiser, fits_slots, is_same_member, is_code_size, is_handler}
-use Rattle.class_file.specs.Reading.{◌>>=◌, u2_at, u4_at, slice_at, counted_at, list_at}
+use Rattle.byte_read.specs.Reading.{◌>>=◌}
+use Rattle.class_file.specs.Reading.{u2_at, u4_at, slice_at, counted_at, list_at}
 
 -- ---- attributes as such (JVMS 4.7)
 
@@ -72,6 +73,11 @@ code_parts pool bytes = do
   handlers ← handlers_at pool (length code.0) code.1
   rest ← skip_all_at pool handlers.1
   if length rest == 0 then Ok (record { max_stack = max_stack.0; max_locals = max_locals.0; code = code.0; handlers = handlers.0 }) else Err BadShape
+
+-- inside Code each fault is one of the shape; want of memory stays what it is
+abbrev pub in_code : ReadRefusal → ReadRefusal
+in_code Memory = Memory
+in_code _ = BadShape
 
 -- inside Code a part that is cut off is a fault of the shape
 abbrev pub as_shape : {A : Type 0} → Result A ReadRefusal → Result A ReadRefusal

@@ -26,6 +26,18 @@ pub record HasTail (bytes : List ℕ) (count : ℕ) : Type 0 where
   pub size : length tail ≡ count
   pub some : 0 < count
 
+-- the length, the magic or the version is refused so, before any memory is asked for
+abbrev pub IsStartRefused : List ℕ → ReadRefusal → Type 0
+IsStartRefused bytes (TooLarge size) = (largest < length bytes) × (size ≡ capped (length bytes))
+IsStartRefused bytes NotClass = (length bytes ≤ largest) × (take 4 bytes ≢ magic)
+IsStartRefused bytes (Version major) = (length bytes ≤ largest) × HasOtherVersion bytes major
+IsStartRefused bytes Truncated = (length bytes < 8) × (take 4 bytes ≡ magic)
+IsStartRefused bytes (TrailingBytes count) = ⊥
+IsStartRefused bytes (BadPool index) = ⊥
+IsStartRefused bytes BadShape = ⊥
+IsStartRefused bytes (BadDescriptor index) = ⊥
+IsStartRefused bytes Memory = ⊥
+
 -- the bytes are refused so; the first fault in a part is that of reading it
 abbrev pub IsRefused : List ℕ → ReadRefusal → Type 0
 IsRefused bytes (TooLarge size) = (largest < length bytes) × (size ≡ capped (length bytes))

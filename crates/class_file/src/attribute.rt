@@ -1,7 +1,8 @@
 //! Attributes as such (JVMS 4.7): a name, a length, and so many bytes.
 
 ghost use Rattle.std.specs.Prelude.{◌≡◌};
-ghost use Rattle.class_file.specs.Reading.{Gives, steps_at};
+ghost use Rattle.byte_read.specs.Reading.{steps_at};
+ghost use Rattle.class_file.specs.Reading.{Gives};
 ghost use Rattle.class_file.specs.ReadingMembers.{text_at, info_at, skip_at, skipped, skip_all_at};
 
 use crate::field::{slice_at, u2_at, u4_at};

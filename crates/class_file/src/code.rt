@@ -2,8 +2,9 @@
 
 ghost use Rattle.std.specs.Prelude.{◌≡◌, [], List};
 ghost use Rattle.class_file.specs.Rules.{is_code_size, is_catch_type, is_handler};
-ghost use Rattle.class_file.specs.Reading.{Gives, steps_at, one_more};
-ghost use Rattle.class_file.specs.ReadingMembers.{handler_at, handlers_at, code_bytes_at, code_parts, as_shape, code_at};
+ghost use Rattle.byte_read.specs.Reading.{steps_at, one_more};
+ghost use Rattle.class_file.specs.Reading.{Gives};
+ghost use Rattle.class_file.specs.ReadingMembers.{handler_at, handlers_at, code_bytes_at, code_parts, in_code, as_shape, code_at};
 
 use crate::attribute::{info_at, skip_all_at};
 use crate::field::{slice_at, u2_at, u4_at};
@@ -131,14 +132,23 @@ fn code_parts(alloc: Global, pool: &Pool, bytes: &[u8]) -> Result<CodeAttr, Read
     })
 }
 
+/// Inside `Code` each fault is one of the shape; want of memory stays what it is.
+fn in_code(why: ReadRefusal) -> ReadRefusal
+    ensures { result ≡ in_code why }
+{
+    match why {
+        ReadRefusal::Memory => ReadRefusal::Memory,
+        _ => ReadRefusal::BadShape,
+    }
+}
+
 /// The parts of a `Code` attribute, of which one that is cut off is a fault of the shape.
 fn whole_code(alloc: Global, pool: &Pool, bytes: &[u8]) -> Result<CodeAttr, ReadRefusal>
     ensures { Gives (λ code. code) result (as_shape (code_parts pool.now bytes.now)) }
 {
     match code_parts(alloc, pool, bytes) {
         Ok(code) => Ok(code),
-        Err(ReadRefusal::Memory) => Err(ReadRefusal::Memory),
-        Err(_) => Err(ReadRefusal::BadShape),
+        Err(why) => Err(in_code(why)),
     }
 }
 

@@ -15,21 +15,13 @@ mod flags;
 mod head;
 mod laws;
 mod member;
-#[cfg(test)]
-mod member_tests;
 mod names;
 mod one_main;
 mod read;
 mod record;
 mod refusal;
-#[cfg(test)]
-mod rule_tests;
 mod rules;
-#[cfg(test)]
-mod samples;
 mod seen;
-#[cfg(test)]
-mod tests;
 mod texts;
 
 pub use laws::prefixes_decide;

@@ -1,7 +1,8 @@
 //! Fields and methods (JVMS 4.5, 4.6), with the attributes that are read.
 
 ghost use Rattle.std.specs.Prelude.{◌≡◌, [], None};
-ghost use Rattle.class_file.specs.Reading.{Gives, steps_at, one_more};
+ghost use Rattle.byte_read.specs.Reading.{steps_at, one_more};
+ghost use Rattle.class_file.specs.Reading.{Gives};
 ghost use Rattle.class_file.specs.Texts.{AreTexts, AreSeen};
 ghost use Rattle.class_file.specs.ReadingMembers.{value_at, field_attribute_at, method_attribute_at, field_attributes_at, method_attributes_at, head_at, field_head_at, method_head_at, field_at, method_at, fields_at, methods_at};
 

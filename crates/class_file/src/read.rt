@@ -1,12 +1,14 @@
 //! The class as a whole (JVMS 4.1).
 
-ghost use Rattle.std.specs.Prelude.{◌≡◌, ◌⊎◌, [], Ok, Err, IfOk, IfErr, length, take};
+ghost use Rattle.std.specs.Prelude.{◌≡◌, ◌⊎◌, ◌≤◌, [], Ok, Err, IfOk, IfErr, length, take};
 ghost use Rattle.std.specs.Str.{bytes_eq};
+ghost use Rattle.byte_read.specs.Reading.{Answers};
 ghost use Rattle.class_file.specs.Layout.{magic};
 ghost use Rattle.class_file.specs.Relation.{IsClassFile};
-ghost use Rattle.class_file.specs.Refused.{IsRefused};
-ghost use Rattle.class_file.specs.Reading.{Gives, steps_at, one_more};
-ghost use Rattle.class_file.specs.ReadingClass.{capped, version_at, of_pool, pool_at, class_flags_at, class_index_at, interfaces_at, class_head_at, members_at, body_of, class_of};
+ghost use Rattle.class_file.specs.Refused.{IsStartRefused, IsRefused};
+ghost use Rattle.byte_read.specs.Reading.{steps_at, one_more};
+ghost use Rattle.class_file.specs.Reading.{Gives};
+ghost use Rattle.class_file.specs.ReadingClass.{capped, version_at, of_pool, after_pool, pool_at, class_flags_at, class_index_at, interfaces_at, class_head_at, members_at, start_of, body_of, class_of};
 ghost use Rattle.class_file.specs.declared.record.ClassFile.{ClassFile as Record};
 ghost use Rattle.class_file.specs.declared.refusal.ReadRefusal.{ReadRefusal as Refusal};
 ghost use Rattle.class_file.specs.declared.refusal.ReadRefusal.TheVariants.{Memory};
@@ -37,7 +39,7 @@ fn capped(length: usize) -> u32
 /// The version, minor and major: 45 to 52.
 #[tactic(auto, unfolding(crate::specs::ReadingClass::version_at))]
 fn version_at(bytes: &[u8]) -> Result<((u16, u16), &[u8]), ReadRefusal>
-    ensures { Gives (λ x. (x.0, x.1.now)) result (version_at bytes.now) }
+    ensures { Answers (λ x. (x.0, x.1.now)) result (version_at bytes.now) }
 {
     let (minor, rest) = u2_at(bytes)?;
     let (major, rest) = u2_at(rest)?;
@@ -60,15 +62,26 @@ fn of_pool(why: PoolRefusal) -> ReadRefusal
     }
 }
 
+/// The pool, and the bytes after its place.
+fn after_pool(
+    bytes: &[u8],
+    read: Result<(Pool, usize), PoolRefusal>,
+) -> Result<(Pool, &[u8]), ReadRefusal>
+    requires { IfOk read (λ x. x.1 ≤ length bytes.now) }
+    ensures { Answers (λ x. (x.0, x.1.now)) result (after_pool bytes.now read) }
+{
+    match read {
+        Ok((pool, suffix)) => Ok((pool, &bytes[suffix..])),
+        Err(why) => Err(of_pool(why)),
+    }
+}
+
 /// The constant pool, with its count.
 #[tactic(auto, unfolding(crate::specs::ReadingClass::pool_at))]
 fn pool_at(alloc: Global, bytes: &[u8]) -> Result<(Pool, &[u8]), ReadRefusal>
     ensures { Gives (λ x. (x.0, x.1.now)) result (pool_at bytes.now) }
 {
-    match read_pool(alloc, bytes, 0) {
-        Ok((pool, suffix)) => Ok((pool, &bytes[suffix..])),
-        Err(why) => Err(of_pool(why)),
-    }
+    after_pool(bytes, read_pool(alloc, bytes, 0))
 }
 
 /// The flags of the class.
@@ -170,7 +183,8 @@ fn members_at<'a>(
 /// What follows the magic.
 #[tactic(auto, unfolding(crate::specs::ReadingClass::body_of))]
 fn body_of(alloc: Global, bytes: &[u8]) -> Result<ClassFile, ReadRefusal>
-    ensures { Gives (λ x. x) result (body_of bytes.now) }
+    ensures value { Gives (λ x. x) result (body_of bytes.now) }
+    ensures version { (why : Refusal) → version_at bytes.now ≡ Err why → result ≡ Err why }
 {
     let ((minor, major), rest) = version_at(bytes)?;
     let (pool, rest) = pool_at(alloc, rest)?;
@@ -202,9 +216,10 @@ fn has_magic(bytes: &[u8]) -> bool
 }
 
 /// The record, or the first fault.
-#[tactic(auto, unfolding(crate::specs::ReadingClass::class_of))]
+#[tactic(auto, unfolding(crate::specs::ReadingClass::class_of, crate::specs::ReadingClass::start_of))]
 fn class_of(alloc: Global, bytes: &[u8]) -> Result<ClassFile, ReadRefusal>
-    ensures { Gives (λ x. x) result (class_of bytes.now) }
+    ensures value { Gives (λ x. x) result (class_of bytes.now) }
+    ensures start { (why : Refusal) → start_of bytes.now ≡ Err why → result ≡ Err why }
 {
     if bytes.len() > LARGEST {
         return Err(ReadRefusal::TooLarge {
@@ -233,6 +248,9 @@ pub fn read_class(alloc: Global, bytes: &[u8]) -> Result<ClassFile, ReadRefusal>
     // Other bytes are refused for what is wrong first, unless memory runs out.
     ensures refused { IfErr result (λ why. (why ≡ Memory) ⊎ IsRefused bytes.now why) }
     ensures refused_only { (why : Refusal) → IsRefused bytes.now why → Gives (λ x. x) result (Err why) }
+
+    // What the length, the magic and the version are refused for is the refusal at once.
+    ensures at_once { (why : Refusal) → IsStartRefused bytes.now why → result ≡ Err why }
 
     // Which record it is, or which refusal.
     ensures exact { Gives (λ x. x) result (class_of bytes.now) }

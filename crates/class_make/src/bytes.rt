@@ -6,6 +6,7 @@ ghost use Rattle.class_pool.specs.Pool.{entry_bytes, slot_bytes, pool_bytes};
 ghost use Rattle.class_file.specs.Layout.{u2, u4, handler_bytes};
 ghost use Rattle.class_make.specs.Written.{fits_text, fits_slot, fits_slots};
 
+use byte_read::{u2_bytes, u4_bytes, u8_bytes};
 use class_file::HandlerRow;
 use class_pool::{Const, Pool};
 use std::alloc::AllocError;
@@ -14,14 +15,14 @@ use std::alloc::AllocError;
 pub(crate) fn append_u2(out: &mut Vec<u8>, number: u16) -> Result<(), AllocError>
     ensures { OnOk result (out.new.items ≡ out.old.items ++ u2 number) }
 {
-    out.extend_from_slice(&number.to_be_bytes())
+    out.extend_from_slice(&u2_bytes(number))
 }
 
 /// Appends a number in four bytes.
 pub(crate) fn append_u4(out: &mut Vec<u8>, number: u32) -> Result<(), AllocError>
     ensures { OnOk result (out.new.items ≡ out.old.items ++ u4 number) }
 {
-    out.extend_from_slice(&number.to_be_bytes())
+    out.extend_from_slice(&u4_bytes(number))
 }
 
 /// Appends a tag and the parts after it.
@@ -36,8 +37,8 @@ fn append_tagged(out: &mut Vec<u8>, tag: u8, parts: &[u8]) -> Result<(), AllocEr
 fn pair_bytes(first: u16, second: u16) -> [u8; 4]
     ensures { result ≡ u2 first ++ u2 second }
 {
-    let [a, b] = first.to_be_bytes();
-    let [c, d] = second.to_be_bytes();
+    let [a, b] = u2_bytes(first);
+    let [c, d] = u2_bytes(second);
     [a, b, c, d]
 }
 
@@ -48,15 +49,15 @@ fn append_entry(out: &mut Vec<u8>, entry: &Const) -> Result<(), AllocError>
 {
     match entry {
         Const::Utf8(text) => {
-            append_tagged(out, 1, &(text.len() as u16).to_be_bytes())?;
+            append_tagged(out, 1, &u2_bytes(text.len() as u16))?;
             out.extend_from_slice(text.as_slice())
         }
-        Const::Integer(value) => append_tagged(out, 3, &value.cast_unsigned().to_be_bytes()),
-        Const::Float(bits) => append_tagged(out, 4, &bits.to_be_bytes()),
-        Const::Long(bits) => append_tagged(out, 5, &bits.to_be_bytes()),
-        Const::Double(bits) => append_tagged(out, 6, &bits.to_be_bytes()),
-        Const::Class(name) => append_tagged(out, 7, &name.to_be_bytes()),
-        Const::String(text) => append_tagged(out, 8, &text.to_be_bytes()),
+        Const::Integer(value) => append_tagged(out, 3, &u4_bytes(value.cast_unsigned())),
+        Const::Float(bits) => append_tagged(out, 4, &u4_bytes(*bits)),
+        Const::Long(bits) => append_tagged(out, 5, &u8_bytes(*bits)),
+        Const::Double(bits) => append_tagged(out, 6, &u8_bytes(*bits)),
+        Const::Class(name) => append_tagged(out, 7, &u2_bytes(*name)),
+        Const::String(text) => append_tagged(out, 8, &u2_bytes(*text)),
         Const::Field(class, member) => append_tagged(out, 9, &pair_bytes(*class, *member)),
         Const::Method(class, member) => append_tagged(out, 10, &pair_bytes(*class, *member)),
         Const::InterfaceMethod(class, member) => {
@@ -66,10 +67,10 @@ fn append_entry(out: &mut Vec<u8>, entry: &Const) -> Result<(), AllocError>
             append_tagged(out, 12, &pair_bytes(*name, *descriptor))
         }
         Const::MethodHandle(kind, index) => {
-            let [a, b] = index.to_be_bytes();
+            let [a, b] = u2_bytes(*index);
             append_tagged(out, 15, &[*kind, a, b])
         }
-        Const::MethodType(descriptor) => append_tagged(out, 16, &descriptor.to_be_bytes()),
+        Const::MethodType(descriptor) => append_tagged(out, 16, &u2_bytes(*descriptor)),
         Const::InvokeDynamic(bootstrap, member) => {
             append_tagged(out, 18, &pair_bytes(*bootstrap, *member))
         }

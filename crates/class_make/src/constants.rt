@@ -1,11 +1,12 @@
 //! The constants of a draft: where they stand, and how one is added or taken off again.
 
-ghost use Rattle.std.specs.Prelude.{◌≡◌, ◌+◌, ◌≤◌, [], ◌++◌, None, Some, length, take, IsSome, IfOk, IfErr, OnOk, OnErr};
+ghost use Rattle.std.specs.Prelude.{◌≡◌, ◌+◌, ◌≤◌, [], ◌++◌, None, Some, Err, length, take, IsSome, IfOk, IfErr, OnOk, OnErr};
 ghost use Rattle.class_pool.specs.declared.pool.Const.TheVariants.{Utf8, Class};
 ghost use Rattle.class_pool.specs.Pool.{Slots, width};
+ghost use Rattle.class_make.specs.declared.refusal.DraftRefusal.TheVariants.{Full};
 ghost use Rattle.class_make.specs.Entries.{index_of, text_index, slots_of, with_entry, with_text, with_class};
 ghost use Rattle.class_make.specs.Numbered.{AreOf};
-ghost use Rattle.class_make.specs.Draft.{with_field_texts, IsUnplaced};
+ghost use Rattle.class_make.specs.Draft.{with_field_texts, IsOver, IsUnplaced};
 
 use crate::entries::text_entry;
 use crate::refusal::DraftRefusal;
@@ -86,6 +87,7 @@ impl Constants {
         ensures unchanged { OnErr result (self.new ≡ self.old) }
         ensures stays_within { OnOk result (length self.new ≤ 65534) }
         ensures refused { IfErr result (IsUnplaced (self.old ++ slots_of constant)) }
+        ensures full { IsOver (self.old ++ slots_of constant) → result ≡ Err Full }
     {
         let width = width(&constant);
         if width > MOST_SLOTS - self.taken {
@@ -112,6 +114,7 @@ impl Constants {
         ensures unchanged { OnErr result (self.new ≡ self.old) }
         ensures stays_within { OnOk result (length self.new ≤ 65534) }
         ensures refused { IfErr result (IsUnplaced (with_entry self.old constant)) }
+        ensures full { IsOver (with_entry self.old constant) → result ≡ Err Full }
     {
         match self.index_of(&constant) {
             Some(index) => Ok(index),

@@ -1,9 +1,9 @@
 //! A class that is drafted call by call.
 
-ghost use Rattle.std.specs.Prelude.{◌≡◌, ◌≤◌, [], ◌∷◌, ◌++◌, Option, Some, None, length, take, IfOk, IfErr, OnOk, OnErr, IsErr};
+ghost use Rattle.std.specs.Prelude.{◌≡◌, ◌≤◌, [], ◌∷◌, ◌++◌, Option, Some, None, Err, length, take, IfOk, IfErr, OnOk, OnErr, IsErr};
 ghost use Rattle.class_pool.specs.declared.pool.Const.TheVariants.{Utf8};
 ghost use Rattle.class_pool.specs.Pool.{entry_at};
-ghost use Rattle.class_make.specs.declared.refusal.DraftRefusal.TheVariants.{Memory};
+ghost use Rattle.class_make.specs.declared.refusal.DraftRefusal.TheVariants.{Full, Memory};
 ghost use Rattle.class_make.specs.Record.{IsRecord};
 ghost use Rattle.class_make.specs.Entries.{index_of, with_entry, text_index};
 ghost use Rattle.class_make.specs.Draft.{new_class, member_in, with_field, with_method, with_constant, with_field_texts, with_method_texts, IsOver, IsUnplaced, IsInvalid};
@@ -198,9 +198,9 @@ impl ClassDraft {
         ensures index { IfOk result (λ index. index_of self.new.pool c ≡ Some index) }
         ensures unchanged { OnErr result (self.new ≡ self.old) }
 
-        // Full exactly where a new constant does not fit, unless memory runs out.
+        // Full exactly where a new constant does not fit, for which no memory is asked.
         ensures refused { IfErr result (IsUnplaced (with_entry self.old.pool c)) }
-        ensures full { IsOver (with_entry self.old.pool c) → IsErr result }
+        ensures full { IsOver (with_entry self.old.pool c) → result ≡ Err Full }
     {
         self.slots.slot(c)
     }

@@ -12,8 +12,6 @@ mod entries;
 mod fits;
 mod refusal;
 mod same;
-#[cfg(test)]
-mod tests;
 mod valid;
 mod write;
 

@@ -12,9 +12,12 @@ use Rattle.class_pool.specs.declared.refusal.PoolRefusal.{PoolRefusal}
 use Rattle.class_pool.specs.declared.refusal.PoolRefusal.TheVariants.{Truncated, BadUtf8}
 use Rattle.class_pool.specs.Utf8.{IsModifiedUtf8}
 use Rattle.class_pool.specs.Pool.{FitsFields, FitsEntry}
-use Rattle.class_pool.specs.PoolReading.{◌>>=◌, u2_at, slice_at, size_at, parts_size, text_of, entry_of, body_at, is_modified_utf8}
+use Rattle.byte_read.specs.Reading.{◌>>=◌, number_at}
+use Rattle.class_pool.specs.PoolRefused.{ShowsGood}
+use Rattle.class_pool.proofs.Steps.{missed_shows}
+use Rattle.class_pool.specs.PoolReading.{u2_at, slice_at, size_at, parts_size, text_of, entry_of, body_at, is_modified_utf8}
 use Rattle.class_pool.proofs.Texts.{text_takes, text_again}
-use Rattle.class_pool.proofs.Steps.{u2, IsBytes, back_2, bind_then, bind_fails, ok_is, same_why, true_false, pair, no_failure, then_ok, then_err, Takes, joined, u2_takes, u2_fails, u2_short, u2_again, slice_takes, slice_fails, slice_short, slice_again}
+use Rattle.byte_read.proofs.Steps.{u2, IsBytes, back_2, bind_then, bind_fails, ok_is, same_why, true_false, pair, no_failure, then_ok, then_err, Takes, joined, u2_takes, number_fails, number_short, u2_again, slice_takes, slice_fails, slice_short, slice_again}
 use Rattle.class_pool.proofs.Parts.{tag_of, size_bytes, parts_of, IsFixed, entry_again, parts_made}
 
 -- the bytes after the tag of an entry
@@ -111,7 +114,7 @@ fixed_parts (InvokeDynamic bootstrap name_and_type) fixed = (refl, refl)
 
 entry_size : (entry : Const) (rest : List ℕ) → FitsFields entry → size_at (tag_of entry) (size_bytes entry ++ rest) ≡ Ok (length (parts_of entry), rest)
 unfolding size_at
-entry_size (Utf8 text) rest fits = u2_again (length text) rest fits
+entry_size (Utf8 text) rest fits = u2_again Truncated (length text) rest fits
 entry_size (Integer value) rest fits = refl
 entry_size (Float bits) rest fits = refl
 entry_size (Long bits) rest fits = refl
@@ -131,7 +134,7 @@ unfolding body_at
 body_again index entry rest fits =
     ap (body_at index (tag_of entry)) (append_assoc (size_bytes entry) (parts_of entry) rest)
     ∙ then_ok _ _ (entry_size entry (parts_of entry ++ rest) fits.0)
-    (then_ok _ _ (slice_again (parts_of entry) rest (length (parts_of entry)) refl)
+    (then_ok _ _ (slice_again Truncated (parts_of entry) rest (length (parts_of entry)) refl)
     (then_ok _ _ (entry_again index entry fits) refl))
 
 -- ---- what is cut is truncated
@@ -146,11 +149,11 @@ cut_fixed index entry bytes suffix fixed e some =
     let p = fixed_parts entry fixed in
     let whole : bytes ++ suffix ≡ parts_of entry = e ∙ ap (λ (prefix : List ℕ). prefix ++ parts_of entry) p.0 in
     let short : length bytes < parts_size (tag_of entry) = omega (arith, length-append bytes suffix, ap length whole, p.1, some_left suffix some) in
-    then_ok _ _ (fixed_size (tag_of entry) bytes fixed) (then_err _ (slice_short (parts_size (tag_of entry)) bytes short))
+    then_ok _ _ (fixed_size (tag_of entry) bytes fixed) (then_err _ (slice_short Truncated (parts_size (tag_of entry)) bytes short))
 
 -- the number at the prefix does not change with what is cut off after it
 same_prefix : (n : ℕ) (bytes suffix text : List ℕ) → n < 2 ^ 16 → 2 ≤ length bytes → bytes ++ suffix ≡ u2 n ++ text → u2_at bytes ≡ Ok (n, drop 2 bytes)
-unfolding u2_at
+unfolding number_at
 same_prefix n bytes suffix text lt long e =
     let prefix : take 2 bytes ≡ u2 n = sym (take-append-le 2 bytes suffix long) ∙ ap (take 2) e in
     let number : big_number 2 bytes ≡ n = sym (big_from-take 0 2 2 bytes (omega arith)) ∙ ap (big_number 2) prefix ∙ big_number-reads_back 2 n [] lt in
@@ -160,12 +163,12 @@ cut_text : (index : ℕ) (text bytes suffix : List ℕ) → length text < 2 ^ 16
 unfolding body_at size_at
 cut_text index text bytes suffix lt e some =
     elim (cases_lt (length bytes) 2) [
-      | inl short ↦ then_err _ (u2_short bytes short)
+      | inl short ↦ then_err _ (number_short Truncated 2 bytes short)
       | inr long ↦
           let left = some_left suffix some in
           let len : length bytes + length suffix ≡ 2 + length text = sym (length-append bytes suffix) ∙ ap length e ∙ length-append (u2 (length text)) text in
           let short : length (drop 2 bytes) < length text = omega (arith, length-drop 2 bytes, len, left) in
-          then_ok _ _ (same_prefix (length text) bytes suffix text lt long e) (then_err _ (slice_short (length text) (drop 2 bytes) short))
+          then_ok _ _ (same_prefix (length text) bytes suffix text lt long e) (then_err _ (slice_short Truncated (length text) (drop 2 bytes) short))
     ]
 
 pub body_cut : (index : ℕ) (entry : Const) (bytes suffix : List ℕ) → FitsFields entry → bytes ++ suffix ≡ body entry → suffix ≢ [] → body_at index (tag_of entry) bytes ≡ Err Truncated
@@ -193,8 +196,8 @@ pub body_bad : (index : ℕ) (text rest : List ℕ) → length text < 2 ^ 16 →
 unfolding body_at size_at entry_of
 body_bad index text rest lt other =
     ap (body_at index TagUtf8) (append_assoc (u2 (length text)) text rest)
-    ∙ then_ok _ _ (u2_again (length text) (text ++ rest) lt)
-    (then_ok _ _ (slice_again text rest (length text) refl) (rw (not_found text other) refl))
+    ∙ then_ok _ _ (u2_again Truncated (length text) (text ++ rest) lt)
+    (then_ok _ _ (slice_again Truncated text rest (length text) refl) (rw (not_found text other) refl))
 
 -- ---- what was read is encoded so
 
@@ -215,8 +218,8 @@ text_taken index bytes x fits e =
     bind_then (u2_at bytes) _ x e (λ size at_size e_parts.
     bind_then (slice_at size.0 size.1) _ x e_parts (λ parts at_parts e_entry.
     bind_then (text_entry index parts.0) _ x e_entry (λ entry at_entry e_x.
-    let s = u2_takes bytes size fits at_size in
-    let p = slice_takes size.0 size.1 parts s.0.rest_fits at_parts in
+    let s = u2_takes Truncated bytes size fits at_size in
+    let p = slice_takes Truncated size.0 size.1 parts s.0.rest_fits at_parts in
     let t = text_passes index parts.0 entry at_entry in
     let sized : Takes bytes (u2 (length parts.0)) size.1 = subst (λ (n : ℕ). Takes bytes (u2 n) size.1) (sym p.1) s.0 in
     let made : TakesBody TagUtf8 bytes (Utf8 parts.0, parts.1) = record { tag_is = refl; takes = joined sized p.0; fits = (omega (arith, p.1, s.1), t.1) } in
@@ -229,7 +232,7 @@ fixed_taken index tag bytes x fixed fits e =
     bind_then (slice_at size.0 size.1) _ x e_parts (λ parts at_parts e_entry.
     bind_then (entry_of index tag parts.0) _ x e_entry (λ entry at_entry e_x.
     let s : pair (parts_size tag) bytes ≡ size = ok_is (parts_size tag, bytes) size (sym (fixed_size tag bytes fixed) ∙ at_size) in
-    let p = slice_takes (parts_size tag) bytes parts fits (subst (λ (y : ℕ × List ℕ). slice_at y.0 y.1 ≡ Ok parts) (sym s) at_parts) in
+    let p = slice_takes Truncated (parts_size tag) bytes parts fits (subst (λ (y : ℕ × List ℕ). slice_at y.0 y.1 ≡ Ok parts) (sym s) at_parts) in
     let m = parts_made index tag parts.0 fixed p.2 p.1 in
     let same : m.entry ≡ entry = ok_is m.entry entry (sym m.reads ∙ at_entry) in
     let encoded : parts.0 ≡ body m.entry = sym m.parts_are ∙ ap (λ (prefix : List ℕ). prefix ++ parts_of m.entry) (sym m.no_size) in
@@ -309,7 +312,7 @@ text_stops : (index : ℕ) (parts : List ℕ) (why : PoolRefusal) → text_entry
 text_stops index parts why e =
     elim (cases_Bool (is_modified_utf8 parts)) [
       | inl t ↦ absurd (no_failure (Utf8 parts) why (rw t at e))
-      | inr f ↦ (same_why (BadUtf8 index) why (rw f at e), λ is. true_false (sym (text_again parts is) ∙ f))
+      | inr f ↦ (sym (same_why {A = Const} (BadUtf8 index) why (rw f at e)), λ is. true_false (sym (text_again parts is) ∙ f))
     ]
 
 abbrev with_rest : List ℕ → Result Const PoolRefusal → Result (Const × List ℕ) PoolRefusal
@@ -332,16 +335,16 @@ unfolding body_at size_at entry_of
 text_fails index bytes why fits e =
     elim (bind_fails (u2_at bytes) _ why e) [
       | inl short ↦
-          let s = u2_fails bytes why short in
+          let s = number_fails Truncated 2 bytes why short in
           inl (s.1, size_cut bytes fits s.0)
       | inr size ↦
-          let s = u2_takes bytes size.0 fits size.1 in
+          let s = u2_takes Truncated bytes size.0 fits size.1 in
           elim (bind_fails (slice_at size.0.0 size.0.1) _ why size.2) [
             | inl short ↦
-                let p = slice_fails size.0.0 size.0.1 why short in
+                let p = slice_fails Truncated size.0.0 size.0.1 why short in
                 inl (p.1, text_cut bytes size.0 s.0 s.1 p.0)
             | inr parts ↦
-                let p = slice_takes size.0.0 size.0.1 parts.0 s.0.rest_fits parts.1 in
+                let p = slice_takes Truncated size.0.0 size.0.1 parts.0 s.0.rest_fits parts.1 in
                 inr (text_bad index bytes size.0 parts.0 why s.0 s.1 p.0 p.1 parts.2)
           ]
     ]
@@ -358,10 +361,10 @@ fixed_fails index tag bytes why fixed fits e =
           let s : size.0 ≡ pair (parts_size tag) bytes = ok_is size.0 (parts_size tag, bytes) (sym size.1 ∙ fixed_size tag bytes fixed) in
           elim (bind_fails (slice_at size.0.0 size.0.1) _ why size.2) [
             | inl short ↦
-                let p = slice_fails (parts_size tag) bytes why (subst (λ (y : ℕ × List ℕ). slice_at y.0 y.1 ≡ Err why) s short) in
+                let p = slice_fails Truncated (parts_size tag) bytes why (subst (λ (y : ℕ × List ℕ). slice_at y.0 y.1 ≡ Err why) s short) in
                 inl (p.1, fixed_cut tag bytes fixed fits p.0)
             | inr parts ↦
-                let p = slice_takes (parts_size tag) bytes parts.0 fits (subst (λ (y : ℕ × List ℕ). slice_at y.0 y.1 ≡ Ok parts.0) s parts.1) in
+                let p = slice_takes Truncated (parts_size tag) bytes parts.0 fits (subst (λ (y : ℕ × List ℕ). slice_at y.0 y.1 ≡ Ok parts.0) s parts.1) in
                 let m = parts_made index tag parts.0.0 fixed p.2 p.1 in
                 absurd (no_failure (m.entry, parts.0.1) why (sym (then_ok _ _ m.reads refl) ∙ parts.2))
           ]
@@ -374,3 +377,18 @@ fails_by index tag bytes why fits (inl is) e =
 
 pub body_fails : (index : ℕ) (tag : Tag) (bytes : List ℕ) (why : PoolRefusal) → IsBytes bytes → body_at index tag bytes ≡ Err why → FailsBody index tag bytes why
 body_fails index tag bytes why fits e = fails_by index tag bytes why fits (text_or_fixed tag) e
+
+-- ---- bytes that are missed
+
+size_missed : (tag : Tag) (bytes : List ℕ) (why : PoolRefusal) → size_at tag bytes ≡ Err why → why ≡ Truncated
+unfolding size_at
+size_missed TagUtf8 bytes why e = (number_fails Truncated 2 bytes why e).1
+size_missed tag bytes why e = absurd (no_failure (parts_size tag, bytes) why e)
+
+pub size_stops : (index : ℕ) (tag : Tag) (bytes : List ℕ) (why : PoolRefusal) → size_at tag bytes ≡ Err why → ShowsGood (λ x. x) (Err why) (body_at index tag bytes)
+unfolding body_at
+size_stops index tag bytes why e = missed_shows why _ (size_missed tag bytes why e) (then_err _ e)
+
+pub parts_stop : (index : ℕ) (tag : Tag) (bytes : List ℕ) (size : ℕ × List ℕ) (why : PoolRefusal) → size_at tag bytes ≡ Ok size → slice_at size.0 size.1 ≡ Err why → ShowsGood (λ x. x) (Err why) (body_at index tag bytes)
+unfolding body_at
+parts_stop index tag bytes size why at_size e = missed_shows why _ (slice_fails Truncated size.0 size.1 why e).1 (then_ok _ _ at_size (then_err _ e))

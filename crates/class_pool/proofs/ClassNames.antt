@@ -7,7 +7,7 @@ use Rattle.std.proofs.lemmas.List.{take_at, drop_at}
 use Rattle.std.proofs.lemmas.List.Concat.{flat_map-cons}
 use Rattle.class_pool.specs.Descriptors.{is_part_byte, IsPart, other_parts, IsClassName}
 use Rattle.class_pool.specs.DescriptorReading.{after_byte, name_size, split_name, class_at}
-use Rattle.class_pool.proofs.Steps.{both, pair, true_false}
+use Rattle.byte_read.proofs.Steps.{both, pair, true_false}
 use Rattle.class_pool.proofs.Scans.{with_byte, name_step, name_stop}
 
 abbrev pub some : {A : Type 0} → A → Option A

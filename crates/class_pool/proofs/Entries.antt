@@ -9,7 +9,7 @@ use Rattle.class_pool.specs.declared.refusal.PoolRefusal.TheVariants.{Truncated,
 use Rattle.class_pool.specs.Pool.{FitsEntry, entry_bytes, width}
 use Rattle.class_pool.specs.PoolRefused.{IsCut, IsBadTag, IsBadText, IsEntryRefused}
 use Rattle.class_pool.specs.PoolReading.{tag_byte, tag_of_byte, tag_width, body_at, tagged_at, entry_at}
-use Rattle.class_pool.proofs.Steps.{IsBytes, IsBytes-rest, same_why, no_failure, Takes}
+use Rattle.byte_read.proofs.Steps.{IsBytes, IsBytes-rest, same_why, no_failure, Takes}
 use Rattle.class_pool.proofs.Parts.{tag_of, bytes_are, width_is, tag_back, same_tag, tag_says, sample}
 use Rattle.class_pool.proofs.Bodies.{body, TakesBody, FailsBody, body_again, body_cut, body_bad, body_taken, body_fails}
 
@@ -151,14 +151,14 @@ body_failed index room byte bytes why tag is le (inr bad) =
     subst (IsEntryRefused index room (byte ∷ bytes)) (sym bad.0) (refl, is_bad)
 
 fails_by : (index room byte : ℕ) (bytes : List ℕ) (why : PoolRefusal) (tag : Option Tag) → IsBytes bytes → tag_of_byte byte ≡ tag → tagged_at index room tag bytes ≡ Err why → IsEntryRefused index room (byte ∷ bytes) why
-fails_by index room byte bytes why None fits is e = bad_tag index room byte bytes why (same_why {A = Const × List ℕ} (BadTag index) why e) (unknown room byte is)
+fails_by index room byte bytes why None fits is e = bad_tag index room byte bytes why (sym (same_why {A = Const × List ℕ} (BadTag index) why e)) (unknown room byte is)
 fails_by index room byte bytes why (Some tag) fits is e =
     elim (cases_Bool (ltb room (tag_width tag))) [
-      | inl t ↦ bad_tag index room byte bytes why (same_why {A = Const × List ℕ} (BadTag index) why (rw t at e)) (too_wide room byte tag is (ltb-true _ _ t))
+      | inl t ↦ bad_tag index room byte bytes why (sym (same_why {A = Const × List ℕ} (BadTag index) why (rw t at e))) (too_wide room byte tag is (ltb-true _ _ t))
       | inr f ↦ body_failed index room byte bytes why tag is (ltb-false _ _ f) (body_fails index tag bytes why fits (rw f at e))
     ]
 
 pub entry_fails : (index room : ℕ) (bytes : List ℕ) (why : PoolRefusal) → 1 ≤ room → IsBytes bytes → entry_at index room bytes ≡ Err why → IsEntryRefused index room bytes why
 unfolding entry_at
-entry_fails index room [] why some fits e = subst (IsEntryRefused index room []) (sym (same_why {A = Const × List ℕ} Truncated why e)) (nothing_there room some)
+entry_fails index room [] why some fits e = subst (IsEntryRefused index room []) (same_why {A = Const × List ℕ} Truncated why e) (nothing_there room some)
 entry_fails index room (byte ∷ bytes) why some fits e = fails_by index room byte bytes why (tag_of_byte byte) (IsBytes-rest byte bytes fits) refl e

@@ -5,8 +5,10 @@ use Rattle.class_pool.specs.declared.pool.Const.{Const}
 use Rattle.class_pool.specs.declared.refusal.PoolRefusal.{PoolRefusal}
 use Rattle.class_pool.specs.Pool.{Slots}
 use Rattle.class_pool.specs.PoolRefused.{Shows}
-use Rattle.class_pool.specs.PoolReading.{◌>>=◌, slot_at, is_first_of_two, slots_at}
-use Rattle.class_pool.proofs.Steps.{bind_then, ok_is, err_says, err_shows}
+use Rattle.byte_read.specs.Reading.{◌>>=◌}
+use Rattle.class_pool.specs.PoolReading.{slot_at, is_first_of_two, slots_at}
+use Rattle.byte_read.proofs.Steps.{bind_then, ok_is}
+use Rattle.class_pool.proofs.Steps.{err_says, err_shows}
 
 -- what was read before, and what is still read
 abbrev pub with_prefix : Slots → Result (Slots × List ℕ) PoolRefusal → Result (Slots × List ℕ) PoolRefusal

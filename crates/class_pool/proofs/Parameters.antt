@@ -11,7 +11,7 @@ use Rattle.class_pool.specs.declared.descriptor.DescriptorRefusal.{DescriptorRef
 use Rattle.class_pool.specs.declared.descriptor.DescriptorRefusal.TheVariants.{BadDescriptor, Memory}
 use Rattle.class_pool.specs.Descriptors.{kind_text, HasDims, IsKind, result_text, IsResult, IsMethodText}
 use Rattle.class_pool.specs.DescriptorReading.{◌>>=◌, Reads, kind_at, field_of, after_close, closed, params_at, result_of, method_of}
-use Rattle.class_pool.proofs.Steps.{pair}
+use Rattle.byte_read.proofs.Steps.{pair}
 use Rattle.class_pool.proofs.ClassNames.{some, some_is, no_some}
 use Rattle.class_pool.proofs.FieldTypes.{bind_some, then_some, chosen, kind_taken, kind_read, field_taken, field_read}
 

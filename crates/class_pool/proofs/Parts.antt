@@ -14,7 +14,7 @@ use Rattle.class_pool.specs.declared.tag.Tag.TheVariants.{Utf8 as TagUtf8, Integ
 use Rattle.class_pool.specs.declared.refusal.PoolRefusal.{PoolRefusal}
 use Rattle.class_pool.specs.Pool.{FitsEntry, entry_bytes, width}
 use Rattle.class_pool.specs.PoolReading.{tag_byte, all_tags, tag_among, tag_of_byte, tag_width, parts_size, entry_of}
-use Rattle.class_pool.proofs.Steps.{u2, u4, u8, IsBytes, IsBytes-drop, IsBytes-rest, back_2, back_4, back_8}
+use Rattle.byte_read.proofs.Steps.{u2, u4, u8, IsBytes, IsBytes-drop, IsBytes-rest, back_2, back_4, back_8}
 use Rattle.class_pool.proofs.Texts.{text_again}
 
 abbrev pub tag_of : Const → Tag

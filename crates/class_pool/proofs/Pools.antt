@@ -7,9 +7,10 @@ use Rattle.std.proofs.lemmas.List.{drop_at, drop-drop}
 use Rattle.class_pool.specs.declared.refusal.PoolRefusal.{PoolRefusal}
 use Rattle.class_pool.specs.declared.refusal.PoolRefusal.TheVariants.{Truncated, BadTag, BadIndex, BadUtf8, Memory}
 use Rattle.class_pool.specs.Pool.{Slots, is_linked, FitsEntry, slot_bytes, AreSpaced, EachEntry, pool_bytes, IsPool, IsPoolAt}
-use Rattle.class_pool.specs.PoolRefused.{IsEntryRefused, IsRefusedEntry, IsFirstUnlinked, HasNoCount, IsRefused, Gives}
-use Rattle.class_pool.specs.PoolReading.{u2_at, slots_at, first_unlinked, checked, pool_at, pool_from}
-use Rattle.class_pool.proofs.Steps.{u2, IsBytes, IsBytes-drop, bind_then, bind_fails, ok_is, same_why, no_failure, then_ok, then_err, err_says, Takes, joined, u2_takes, u2_fails, u2_short, u2_again}
+use Rattle.class_pool.specs.PoolRefused.{IsCountRefused, IsEntryRefused, IsRefusedEntry, IsFirstUnlinked, HasNoCount, IsRefused, Gives}
+use Rattle.class_pool.specs.PoolReading.{u2_at, count_at, slots_at, first_unlinked, checked, pool_at, pool_from}
+use Rattle.byte_read.proofs.Steps.{roomy, u2, IsBytes, IsBytes-drop, bind_then, bind_fails, ok_is, same_why, no_failure, then_ok, then_err, Takes, joined, u2_takes, number_fails, number_short, u2_again}
+use Rattle.class_pool.proofs.Steps.{err_says}
 use Rattle.class_pool.proofs.Linked.{Found, none_says, none_again, some_says, some_again}
 use Rattle.class_pool.proofs.SlotLists.{HasSecond, slots_again, slots_refused, slots_taken, FailsSlots, slots_fail}
 
@@ -68,7 +69,7 @@ prefix_again slots rest are =
     let small : length slots + 1 < 2 ^ 16 = omega (arith, are.count) in
     let room : length slots + 1 - 1 ≡ length slots = omega arith in
     let read : counted (length slots + 1, flat_map slot_bytes slots ++ rest) ≡ Ok (slots, rest) = some_counted (length slots + 1) (flat_map slot_bytes slots ++ rest) (omega arith) ∙ rw room (slots_again false 1 slots rest are.fits are.spaced) in
-    ap pool_at whole ∙ then_ok _ _ (u2_again (length slots + 1) (flat_map slot_bytes slots ++ rest) small) (then_ok _ _ read refl)
+    ap pool_at whole ∙ then_ok _ _ (u2_again Truncated (length slots + 1) (flat_map slot_bytes slots ++ rest) small) (then_ok _ _ read refl)
 
 -- ---- pools
 
@@ -89,14 +90,14 @@ checked_ok slots (Some index) x e = absurd (no_failure x (BadIndex index) (sym e
 
 checked_err : (slots : Slots × List ℕ) (found : Option ℕ) (why : PoolRefusal) → checked slots found ≡ Err why → (index : ℕ) × (found ≡ Some index) × (why ≡ BadIndex index)
 checked_err slots None why e = absurd (no_failure slots why e)
-checked_err slots (Some index) why e = (index, refl, same_why {A = Slots × List ℕ} (BadIndex index) why e)
+checked_err slots (Some index) why e = (index, refl, sym (same_why {A = Slots × List ℕ} (BadIndex index) why e))
 
 pub pool_taken : (bytes : List ℕ) (x : Slots × List ℕ) → IsBytes bytes → pool_at bytes ≡ Ok x → Takes bytes (pool_bytes x.0) x.1 × IsPool x.0
 unfolding pool_at
 pool_taken bytes x fits e =
     bind_then (u2_at bytes) _ x e (λ count at_count e_slots.
     bind_then (counted count) _ x e_slots (λ slots at_slots e_x.
-    let n = u2_takes bytes count fits at_count in
+    let n = u2_takes Truncated bytes count fits at_count in
     let t = prefix_taken bytes count slots n.0 n.1 at_slots in
     let c = checked_ok slots (first_unlinked slots.0 1 slots.0) x e_x in
     let is : IsPool slots.0 = record { count = t.1.count; fits = t.1.fits; spaced = t.1.spaced; linked = none_says slots.0 slots.0 1 c.0 } in
@@ -110,7 +111,7 @@ entry_refused_so bytes why r =
     let rest : List ℕ = flat_map slot_bytes r.slots ++ r.rest in
     let slots : slots_at false 1 (r.count - 1) rest ≡ Err why =
     slots_refused false 1 (r.count - 1) (length r.slots + 1) (r.count - (length r.slots + 1)) r.slots r.rest why r.fits r.spaced (omega (arith, r.before_count)) (omega arith, omega (arith, r.before_count)) r.refused in
-    ap pool_at r.encoded ∙ then_ok _ _ (u2_again r.count rest r.count_fits) (then_err _ (some_counted r.count rest (omega (arith, r.before_count)) ∙ slots))
+    ap pool_at r.encoded ∙ then_ok _ _ (u2_again Truncated r.count rest r.count_fits) (then_err _ (some_counted r.count rest (omega (arith, r.before_count)) ∙ slots))
 
 unlinked_so : (bytes : List ℕ) (index : ℕ) → IsFirstUnlinked bytes index → pool_at bytes ≡ Err (BadIndex index)
 unlinked_so bytes index r =
@@ -121,11 +122,11 @@ unlinked_so bytes index r =
 no_count_so : (bytes : List ℕ) (index : ℕ) → index ≡ 0 → HasNoCount bytes → pool_at bytes ≡ Err (BadIndex index)
 unfolding pool_at
 no_count_so bytes index is none =
-    ap pool_at none.1 ∙ then_ok _ _ (u2_again 0 none.0 (omega arith)) (rw is refl)
+    ap pool_at none.1 ∙ then_ok _ _ (u2_again Truncated 0 none.0 (omega arith)) (rw is refl)
 
 short_so : (bytes : List ℕ) → length bytes < 2 → pool_at bytes ≡ Err Truncated
 unfolding pool_at
-short_so bytes short = then_err _ (u2_short bytes short)
+short_so bytes short = then_err _ (number_short Truncated 2 bytes short)
 
 pub pool_refused : (bytes : List ℕ) (why : PoolRefusal) → IsRefused bytes why → pool_at bytes ≡ Err why
 pool_refused bytes Truncated (inl short) = short_so bytes short
@@ -167,7 +168,7 @@ count_failed bytes count why prefix lt e =
     elim (count_cases count (Err why) e) [
       | inl none ↦
           let encoded : bytes ≡ u2 0 ++ count.1 = prefix.parts ∙ ap (λ (n : ℕ). u2 n ++ count.1) none.0 in
-          subst (IsRefused bytes) (same_why {A = Slots × List ℕ} why (BadIndex 0) none.1) (inl (refl, (count.1, encoded)))
+          subst (IsRefused bytes) (sym (same_why {A = Slots × List ℕ} why (BadIndex 0) none.1)) (inl (refl, (count.1, encoded)))
       | inr some ↦ from_entry bytes why (entry_failed bytes count why prefix lt some.0 (slots_fail false 1 (count.0 - 1) count.1 why prefix.rest_fits some.1))
     ]
 
@@ -201,10 +202,10 @@ unfolding pool_at
 pool_fails bytes why fits e =
     elim (bind_fails (u2_at bytes) _ why e) [
       | inl short ↦
-          let s = u2_fails bytes why short in
+          let s = number_fails Truncated 2 bytes why short in
           subst (IsRefused bytes) (sym s.1) (inl s.0)
       | inr count ↦
-          let n = u2_takes bytes count.0 fits count.1 in
+          let n = u2_takes Truncated bytes count.0 fits count.1 in
           elim (bind_fails (counted count.0) _ why count.2) [
             | inl bad ↦ count_failed bytes count.0 why n.0 n.1 bad
             | inr slots ↦
@@ -280,3 +281,19 @@ is_refused bytes at (Err why) fits e =
 
 pub is_answered : (bytes : List ℕ) (at : ℕ) (result : Result (Slots × ℕ) PoolRefusal) → Gives result (pool_from bytes at) → (why : PoolRefusal) → IsRefused (drop at bytes) why → Gives result (Err why)
 is_answered bytes at result e why r = subst (Gives result) (from_refused bytes at why r) e
+
+-- a count that is refused is refused by reading it
+pub is_at_once : (bytes : List ℕ) (why : PoolRefusal) → IsCountRefused bytes why → count_at bytes ≡ Err why
+unfolding count_at
+is_at_once bytes Truncated short = then_err _ (number_short Truncated 2 bytes short)
+is_at_once bytes (BadIndex index) (is, none) =
+    ap count_at none.1 ∙ then_ok _ _ (u2_again Truncated 0 none.0 (omega arith)) (rw is refl)
+is_at_once bytes (BadTag index) r = absurd r
+is_at_once bytes (BadUtf8 index) r = absurd r
+is_at_once bytes Memory r = absurd r
+
+-- a count that is read is not 0
+pub count_read : (bytes : List ℕ) (x : ℕ × List ℕ) → count_at bytes ≡ Ok x → u2_at bytes ≡ Ok x
+unfolding count_at
+count_read bytes x e =
+    bind_then (u2_at bytes) _ x e (λ y at_y e_x. at_y ∙ ap (λ (z : ℕ × List ℕ). Ok z) (roomy (eqb y.0 0) y x (BadIndex 0) e_x).1)

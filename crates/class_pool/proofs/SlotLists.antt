@@ -7,7 +7,7 @@ use Rattle.class_pool.specs.declared.refusal.PoolRefusal.{PoolRefusal}
 use Rattle.class_pool.specs.Pool.{Slots, FitsEntry, entry_bytes, slot_bytes, is_wide, width, AreSpacedAfter, EachEntry}
 use Rattle.class_pool.specs.PoolRefused.{IsEntryRefused}
 use Rattle.class_pool.specs.PoolReading.{entry_at, slot_at, is_first_of_two, slots_at}
-use Rattle.class_pool.proofs.Steps.{IsBytes, bind_then, bind_fails, ok_is, no_failure, then_ok, then_err, Takes, joined}
+use Rattle.byte_read.proofs.Steps.{IsBytes, bind_then, bind_fails, ok_is, no_failure, then_ok, then_err, Takes, joined}
 use Rattle.class_pool.proofs.Entries.{entry_read, entry_refused, entry_taken, entry_fails}
 
 -- ---- room

@@ -1,8 +1,9 @@
 -- Reading a constant pool as a function on lists: a part is a value and the bytes after it, or a
 -- refusal.
-use Rattle.std.specs.Prelude.{ℕ, zero, suc, ◌-◌, Bool, true, false, ◌&&◌, ◌||◌, ◌==◌, nat_lt, nat_le, if◌then◌else◌, List, [], ◌∷◌, length, take, drop, slice_index, Option, Some, None, Result, Ok, Err}
+use Rattle.std.specs.Prelude.{ℕ, zero, suc, ◌-◌, Bool, true, false, ◌&&◌, ◌||◌, ◌==◌, nat_lt, nat_le, if◌then◌else◌, List, [], ◌∷◌, length, drop, slice_index, Option, Some, None, Result, Ok, Err}
 use Rattle.std.specs.Int.{w32, cast_signed}
 use Rattle.byteorder.specs.Endian.{big_number}
+use Rattle.byte_read.specs.Reading.{◌>>=◌, number_at, slice_at as bytes_at}
 use Rattle.class_pool.specs.declared.pool.Const.{Const}
 use Rattle.class_pool.specs.declared.pool.Const.TheVariants.{Utf8, Integer, Float, Long, Double, Class, String, Field, Method, InterfaceMethod, NameAndType, MethodHandle, MethodType, InvokeDynamic}
 use Rattle.class_pool.specs.declared.tag.Tag.{Tag}
@@ -10,11 +11,6 @@ use Rattle.class_pool.specs.declared.tag.Tag.TheVariants.{Utf8 as TagUtf8, Integ
 use Rattle.class_pool.specs.declared.refusal.PoolRefusal.{PoolRefusal}
 use Rattle.class_pool.specs.declared.refusal.PoolRefusal.TheVariants.{Truncated, BadTag, BadIndex, BadUtf8}
 use Rattle.class_pool.specs.Pool.{Slots, is_linked, is_wide}
-
-infixl 10 ◌>>=◌
-abbrev pub ◌>>=◌ : {A B : Type 0} → Result A PoolRefusal → (A → Result B PoolRefusal) → Result B PoolRefusal
-(Ok x) >>= f = f x
-(Err e) >>= f = Err e
 
 -- ---- modified UTF-8 (JVMS 4.4.7)
 
@@ -107,12 +103,12 @@ parts_size TagInvokeDynamic = 4
 -- ---- entries
 
 -- a number of two bytes
-unfoldable pub u2_at : List ℕ → Result (ℕ × List ℕ) PoolRefusal
-u2_at bytes = if nat_lt (length bytes) 2 then Err Truncated else Ok (big_number 2 bytes, drop 2 bytes)
+abbrev pub u2_at : List ℕ → Result (ℕ × List ℕ) PoolRefusal
+u2_at bytes = number_at Truncated 2 bytes
 
 -- so many bytes
-unfoldable pub slice_at : ℕ → List ℕ → Result (List ℕ × List ℕ) PoolRefusal
-slice_at size bytes = if nat_lt (length bytes) size then Err Truncated else Ok (take size bytes, drop size bytes)
+abbrev pub slice_at : ℕ → List ℕ → Result (List ℕ × List ℕ) PoolRefusal
+slice_at size bytes = bytes_at Truncated size bytes
 
 -- how many bytes the parts have, and the bytes after that
 unfoldable pub size_at : Tag → List ℕ → Result (ℕ × List ℕ) PoolRefusal
@@ -195,6 +191,12 @@ first_unlinked pool index [] = None
 first_unlinked pool index (slot ∷ slots) = if is_slot_linked pool slot then first_unlinked pool (suc index) slots else Some index
 
 -- ---- the pool
+
+-- the count, which is not 0
+unfoldable pub count_at : List ℕ → Result (ℕ × List ℕ) PoolRefusal
+count_at bytes = do
+  count ← u2_at bytes
+  if count.0 == 0 then Err (BadIndex 0) else Ok count
 
 abbrev pub checked : Slots × List ℕ → Option ℕ → Result (Slots × List ℕ) PoolRefusal
 checked slots None = Ok slots

@@ -1,5 +1,5 @@
 -- Why bytes are no constant pool: entry by entry what stands there, and then what the entries name.
-use Rattle.std.specs.Prelude.{◌≡◌, ◌≢◌, ◌⊎◌, ℕ, ◌+◌, ◌-◌, ◌^◌, ◌<◌, ◌≤◌, IsTrue, false, List, [], ◌∷◌, ◌++◌, length, Some, Result, Ok, Err}
+use Rattle.std.specs.Prelude.{◌≡◌, ◌≢◌, ◌⊎◌, ℕ, ◌+◌, ◌-◌, ◌^◌, ◌<◌, ◌≤◌, IsTrue, IsOk, false, List, [], ◌∷◌, ◌++◌, length, Some, Result, Ok, Err}
 use Rattle.std.specs.List.{flat_map}
 use Rattle.byteorder.specs.Endian.{big_bytes}
 use Rattle.class_pool.specs.declared.pool.Const.{Const}
@@ -79,6 +79,14 @@ pub record IsFirstUnlinked (bytes : List ℕ) (index : ℕ) : Type 0 where
 abbrev pub HasNoCount : List ℕ → Type 0
 HasNoCount bytes = (rest : List ℕ) × (bytes ≡ big_bytes 2 0 ++ rest)
 
+-- the count is refused so, before any memory is asked for: it is cut off, or it is 0
+abbrev pub IsCountRefused : List ℕ → PoolRefusal → Type 0
+IsCountRefused bytes Truncated = length bytes < 2
+IsCountRefused bytes (BadIndex index) = (index ≡ 0) × HasNoCount bytes
+IsCountRefused bytes (BadTag index) = ⊥
+IsCountRefused bytes (BadUtf8 index) = ⊥
+IsCountRefused bytes Memory = ⊥
+
 -- the bytes are refused as a pool so
 abbrev pub IsRefused : List ℕ → PoolRefusal → Type 0
 IsRefused bytes Truncated = (length bytes < 2) ⊎ IsRefusedEntry bytes Truncated
@@ -95,6 +103,15 @@ Shows view (Err Truncated) read = read ≡ Err Truncated
 Shows view (Err (BadTag index)) read = read ≡ Err (BadTag index)
 Shows view (Err (BadIndex index)) read = read ≡ Err (BadIndex index)
 Shows view (Err (BadUtf8 index)) read = read ≡ Err (BadUtf8 index)
+
+-- the same, where memory is asked only for what is good
+abbrev pub ShowsGood : {X Y : Type 0} → (X → Y) → Result X PoolRefusal → Result Y PoolRefusal → Type 0
+ShowsGood view (Ok x) read = read ≡ Ok (view x)
+ShowsGood view (Err Memory) read = IsOk read
+ShowsGood view (Err Truncated) read = read ≡ Err Truncated
+ShowsGood view (Err (BadTag index)) read = read ≡ Err (BadTag index)
+ShowsGood view (Err (BadIndex index)) read = read ≡ Err (BadIndex index)
+ShowsGood view (Err (BadUtf8 index)) read = read ≡ Err (BadUtf8 index)
 
 -- a function returned this answer, unless memory ran out
 abbrev pub Gives : {X : Type 0} → Result X PoolRefusal → Result X PoolRefusal → Type 0

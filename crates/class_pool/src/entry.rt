@@ -1,47 +1,27 @@
 //! An entry of the constant pool (JVMS 4.4) is a tag and the parts after it.
 
 ghost use Rattle.std.specs.Prelude.{◌≡◌, ◌≤◌, length};
-ghost use Rattle.class_pool.specs.PoolRefused.{Shows};
-ghost use Rattle.class_pool.specs.PoolReading.{u2_at, slice_at, size_at, parts_size, text_of, pair_of, entry_of, body_at, tagged_at, tag_of_byte, entry_at};
+ghost use Rattle.byte_read.specs.Reading.{Answers};
+ghost use Rattle.class_pool.specs.PoolRefused.{ShowsGood};
+ghost use Rattle.class_pool.specs.PoolReading.{size_at, parts_size, text_of, pair_of, entry_of, body_at, tagged_at, tag_of_byte, entry_at};
 
 use crate::pool::{Const, Text};
 use crate::refusal::PoolRefusal;
 use crate::tag::Tag;
 use crate::utf8::is_modified_utf8;
+use byte_read::{slice_at, u2_at};
 use byteorder::{BigEndian, ByteOrder};
 use item_list::Items;
 use std::alloc::Global;
 
-/// A `u2`, and the bytes after it.
-#[tactic(auto, unfolding(crate::specs::PoolReading::u2_at))]
-pub(crate) fn u2_at(bytes: &[u8]) -> Result<(u16, &[u8]), PoolRefusal>
-    ensures { Shows (λ x. (x.0, x.1.now)) result (u2_at bytes.now) }
-{
-    if bytes.len() < 2 {
-        return Err(PoolRefusal::Truncated);
-    }
-    Ok((BigEndian::read_u16(bytes), &bytes[2..]))
-}
-
-/// So many bytes, and those after them.
-#[tactic(auto, unfolding(crate::specs::PoolReading::slice_at))]
-fn slice_at(size: usize, bytes: &[u8]) -> Result<(&[u8], &[u8]), PoolRefusal>
-    ensures { Shows (λ x. (x.0.now, x.1.now)) result (slice_at size bytes.now) }
-{
-    if bytes.len() < size {
-        return Err(PoolRefusal::Truncated);
-    }
-    Ok(bytes.split_at(size))
-}
-
 /// How many bytes the parts of an entry have, and the bytes after that number.
 #[tactic(auto, unfolding(crate::specs::PoolReading::size_at))]
 fn size_at(tag: Tag, bytes: &[u8]) -> Result<(usize, &[u8]), PoolRefusal>
-    ensures { Shows (λ x. (x.0, x.1.now)) result (size_at tag bytes.now) }
+    ensures { Answers (λ x. (x.0, x.1.now)) result (size_at tag bytes.now) }
 {
     match tag {
         Tag::Utf8 => {
-            let (size, rest) = u2_at(bytes)?;
+            let (size, rest) = u2_at(PoolRefusal::Truncated, bytes)?;
             Ok((usize::from(size), rest))
         }
         _ => Ok((tag.parts_size(), bytes)),
@@ -50,7 +30,7 @@ fn size_at(tag: Tag, bytes: &[u8]) -> Result<(usize, &[u8]), PoolRefusal>
 
 /// The text of these bytes, at an index.
 fn text_of(alloc: Global, index: u16, bytes: &[u8]) -> Result<Text, PoolRefusal>
-    ensures { Shows (λ text. text) result (text_of index bytes.now) }
+    ensures { ShowsGood (λ text. text) result (text_of index bytes.now) }
 {
     if !is_modified_utf8(bytes) {
         return Err(PoolRefusal::BadUtf8 { index });
@@ -70,7 +50,7 @@ fn pair_of(parts: &[u8]) -> (u16, u16)
 #[tactic(auto, unfolding(crate::specs::PoolReading::entry_of))]
 fn entry_of(alloc: Global, index: u16, tag: Tag, parts: &[u8]) -> Result<Const, PoolRefusal>
     requires { parts_size tag ≤ length parts.now }
-    ensures { Shows (λ entry. entry) result (entry_of index tag parts.now) }
+    ensures { ShowsGood (λ entry. entry) result (entry_of index tag parts.now) }
 {
     let entry = match tag {
         Tag::Utf8 => Const::Utf8(text_of(alloc, index, parts)?),
@@ -109,10 +89,10 @@ fn entry_of(alloc: Global, index: u16, tag: Tag, parts: &[u8]) -> Result<Const, 
 /// What follows the tag of the entry at an index.
 #[tactic(auto, unfolding(crate::specs::PoolReading::body_at))]
 fn body_at(alloc: Global, index: u16, tag: Tag, bytes: &[u8]) -> Result<(Const, &[u8]), PoolRefusal>
-    ensures { Shows (λ x. (x.0, x.1.now)) result (body_at index tag bytes.now) }
+    ensures { ShowsGood (λ x. (x.0, x.1.now)) result (body_at index tag bytes.now) }
 {
     let (size, rest) = size_at(tag, bytes)?;
-    let (parts, rest) = slice_at(size, rest)?;
+    let (parts, rest) = slice_at(PoolRefusal::Truncated, size, rest)?;
     let entry = entry_of(alloc, index, tag, parts)?;
     Ok((entry, rest))
 }
@@ -125,7 +105,7 @@ pub(crate) fn entry_at(
     room: u16,
     bytes: &[u8],
 ) -> Result<(Const, &[u8]), PoolRefusal>
-    ensures { Shows (λ x. (x.0, x.1.now)) result (entry_at index room bytes.now) }
+    ensures { ShowsGood (λ x. (x.0, x.1.now)) result (entry_at index room bytes.now) }
 {
     match bytes {
         [] => Err(PoolRefusal::Truncated),

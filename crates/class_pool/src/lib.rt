@@ -16,8 +16,6 @@ mod pool;
 mod refusal;
 mod slots;
 mod tag;
-#[cfg(test)]
-mod tests;
 mod types;
 mod utf8;
 

@@ -3,13 +3,15 @@
 ghost use Rattle.std.specs.Prelude.{◌≡◌, ◌⊎◌, ◌≤◌, ◌-◌, ℕ, false, Ok, Err, List, Option, IfOk, IfErr, length, drop};
 ghost use Rattle.class_pool.specs.declared.refusal.PoolRefusal.{PoolRefusal as Refusal};
 ghost use Rattle.class_pool.specs.declared.refusal.PoolRefusal.TheVariants.{Memory};
+ghost use Rattle.byte_read.specs.Reading.{Answers};
 ghost use Rattle.class_pool.specs.Pool.{Slots, is_linked, is_wide, IsPoolAt};
-ghost use Rattle.class_pool.specs.PoolRefused.{IsRefused, Shows, Gives};
-ghost use Rattle.class_pool.specs.PoolReading.{slot_at, is_first_of_two, slots_at, is_slot_linked, first_unlinked, pool_at, pool_from};
+ghost use Rattle.class_pool.specs.PoolRefused.{IsRefused, IsCountRefused, Shows, ShowsGood, Gives};
+ghost use Rattle.class_pool.specs.PoolReading.{count_at, slot_at, is_first_of_two, slots_at, is_slot_linked, first_unlinked, pool_at, pool_from};
 
-use crate::entry::{entry_at, u2_at};
+use crate::entry::entry_at;
 use crate::pool::{Const, Pool};
 use crate::refusal::PoolRefusal;
+use byte_read::u2_at;
 use std::alloc::Global;
 
 /// The entry takes two places (JVMS 4.4.5).
@@ -38,7 +40,7 @@ fn slot_at(
     room: u16,
     bytes: &[u8],
 ) -> Result<(Option<Const>, &[u8]), PoolRefusal>
-    ensures { Shows (λ x. (x.0, x.1.now)) result (slot_at second index room bytes.now) }
+    ensures { ShowsGood (λ x. (x.0, x.1.now)) result (slot_at second index room bytes.now) }
 {
     if second {
         return Ok((None, bytes));
@@ -116,15 +118,25 @@ fn first_unlinked(pool: &Pool) -> Option<u16>
     None
 }
 
-/// The pool at the prefix of the bytes, and the bytes after it.
-#[tactic(auto, unfolding(crate::specs::PoolReading::pool_at))]
-fn pool_at(alloc: Global, bytes: &[u8]) -> Result<(Pool, &[u8]), PoolRefusal>
-    ensures { Shows (λ x. (x.0, x.1.now)) result (pool_at bytes.now) }
+/// The count, which is not 0, and the bytes after it.
+#[tactic(auto, unfolding(crate::specs::PoolReading::count_at))]
+fn count_at(bytes: &[u8]) -> Result<(u16, &[u8]), PoolRefusal>
+    ensures { Answers (λ x. (x.0, x.1.now)) result (count_at bytes.now) }
 {
-    let (count, rest) = u2_at(bytes)?;
+    let (count, rest) = u2_at(PoolRefusal::Truncated, bytes)?;
     if count == 0 {
         return Err(PoolRefusal::BadIndex { index: 0 });
     }
+    Ok((count, rest))
+}
+
+/// The pool at the prefix of the bytes, and the bytes after it.
+#[tactic(auto, unfolding(crate::specs::PoolReading::pool_at, crate::specs::PoolReading::count_at))]
+fn pool_at(alloc: Global, bytes: &[u8]) -> Result<(Pool, &[u8]), PoolRefusal>
+    ensures value { Shows (λ x. (x.0, x.1.now)) result (pool_at bytes.now) }
+    ensures count { (why : Refusal) → count_at bytes.now ≡ Err why → result ≡ Err why }
+{
+    let (count, rest) = count_at(bytes)?;
     let (slots, rest) = slots_at(alloc, count, rest)?;
     let pool = Pool::from_slots(slots);
     match first_unlinked(&pool) {
@@ -137,7 +149,8 @@ fn pool_at(alloc: Global, bytes: &[u8]) -> Result<(Pool, &[u8]), PoolRefusal>
 #[tactic(auto, unfolding(crate::specs::PoolReading::pool_from))]
 fn pool_from(alloc: Global, bytes: &[u8], at: usize) -> Result<(Pool, usize), PoolRefusal>
     requires { at ≤ length bytes.now }
-    ensures { Gives result (pool_from bytes.now at) }
+    ensures value { Gives result (pool_from bytes.now at) }
+    ensures count { (why : Refusal) → count_at (drop at bytes.now) ≡ Err why → result ≡ Err why }
 {
     let (pool, rest) = pool_at(alloc, &bytes[at..])?;
     Ok((pool, bytes.len() - rest.len()))
@@ -158,6 +171,9 @@ pub fn read_pool(alloc: Global, bytes: &[u8], at: usize) -> Result<(Pool, usize)
     // Other bytes are refused for what is wrong first, unless memory runs out.
     ensures refused { IfErr result (λ why. (why ≡ Memory) ⊎ IsRefused (drop at bytes.now) why) }
     ensures refused_only { (why : Refusal) → IsRefused (drop at bytes.now) why → Gives result (Err why) }
+
+    // A count that is cut off or 0 is the refusal at once.
+    ensures at_once { (why : Refusal) → IsCountRefused (drop at bytes.now) why → result ≡ Err why }
 
     // Which pool it is, or which refusal.
     ensures exact { Gives result (pool_from bytes.now at) }

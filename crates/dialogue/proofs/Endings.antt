@@ -1,5 +1,6 @@
 -- After an end, more steps change nothing; so a run has one ending.
 use Rattle.std.proofs.Common.{◌≡◌, ℕ, ◌+◌, zero, suc, List, sym, ap, ◌∙◌, add-zero, add-suc, add_comm}
+use Rattle.dialogue.specs.Answers.{Answers}
 use Rattle.dialogue.specs.Dialogue.{Item}
 use Rattle.dialogue.specs.Outcome.{Outcome}
 use Rattle.dialogue.specs.Run.{Machine, Progress, Over, advance, run_from, EndsSo}
@@ -18,10 +19,10 @@ one_ending {State} {Ending} machine start first second a b =
     let same = ap (run_from machine start) (add_comm a.steps b.steps) in
     same_outcome first second a.last b.last (sym one ∙ same ∙ other) a.left b.left
   where
-    outcome : Ending → List Item → List ℕ → Outcome Ending
+    outcome : Ending → List Item → Answers → Outcome Ending
     outcome ending dialogue left = record { ending = ending; dialogue = dialogue; left = left }
 
-    same_parts : (e f : Ending) (d h : List Item) (l m : List ℕ) → e ≡ f → d ≡ h → l ≡ m → outcome e d l ≡ outcome f h m
+    same_parts : (e f : Ending) (d h : List Item) (l m : Answers) → e ≡ f → d ≡ h → l ≡ m → outcome e d l ≡ outcome f h m
     same_parts e f d h l m p q r = cc
 
     same_outcome : (first second : Outcome Ending) (x y : State) → Over first.dialogue x first.ending ≡ Over second.dialogue y second.ending → first.left ≡ machine.left x → second.left ≡ machine.left y → first ≡ second

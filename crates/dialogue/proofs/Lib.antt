@@ -1,2 +1,4 @@
 pub mod Endings
 pub mod Simulation
+pub mod Gets
+pub mod Inputs

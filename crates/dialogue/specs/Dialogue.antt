@@ -1,5 +1,5 @@
 -- A dialogue: what a run asks of a console and tells it, in order.
-use Rattle.std.specs.Prelude.{◌≡◌, ℕ, List, [], ◌∷◌, ◌++◌, map, refl}
+use Rattle.std.specs.Prelude.{◌≡◌, ℕ, zero, suc, List, [], ◌∷◌, ◌++◌, map, refl}
 use Rattle.std.proofs.Common.{ap}
 
 -- asks for the next byte of the input, shows a byte, notes a byte
@@ -21,6 +21,13 @@ notes [] = []
 notes (Get ∷ items) = notes items
 notes (Put byte ∷ items) = notes items
 notes (Note byte ∷ items) = byte ∷ notes items
+
+-- how many bytes are asked for
+abbrev pub gets : List Item → ℕ
+gets [] = zero
+gets (Get ∷ items) = suc (gets items)
+gets (Put byte ∷ items) = gets items
+gets (Note byte ∷ items) = gets items
 
 -- each byte is noted
 abbrev pub noting : List ℕ → List Item
@@ -50,6 +57,10 @@ pub notes-noting : (bytes : List ℕ) → notes (noting bytes) ≡ bytes
 notes-noting [] = refl
 notes-noting (byte ∷ bytes) = ap (λ rest. byte ∷ rest) (notes-noting bytes)
 
+pub gets-noting : (bytes : List ℕ) → gets (noting bytes) ≡ 0
+gets-noting [] = refl
+gets-noting (byte ∷ bytes) = gets-noting bytes
+
 pub puts-putting : (bytes : List ℕ) → puts (putting bytes) ≡ bytes
 puts-putting [] = refl
 puts-putting (byte ∷ bytes) = ap (λ rest. byte ∷ rest) (puts-putting bytes)
@@ -57,3 +68,7 @@ puts-putting (byte ∷ bytes) = ap (λ rest. byte ∷ rest) (puts-putting bytes)
 pub notes-putting : (bytes : List ℕ) → notes (putting bytes) ≡ []
 notes-putting [] = refl
 notes-putting (byte ∷ bytes) = notes-putting bytes
+
+pub gets-putting : (bytes : List ℕ) → gets (putting bytes) ≡ 0
+gets-putting [] = refl
+gets-putting (byte ∷ bytes) = gets-putting bytes

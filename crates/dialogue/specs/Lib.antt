@@ -1,3 +1,4 @@
+pub mod Answers
 pub mod Dialogue
 pub mod Limits
 pub mod Natives

@@ -1,6 +1,7 @@
 -- Machines that run step by step, whichever they are: what a step does, how far a run has come, and how
 -- it ends.
 use Rattle.std.specs.Prelude.{◌≡◌, ℕ, zero, suc, List, ◌++◌}
+use Rattle.dialogue.specs.Answers.{Answers}
 use Rattle.dialogue.specs.Dialogue.{Item}
 use Rattle.dialogue.specs.Outcome.{Outcome}
 
@@ -10,10 +11,10 @@ pub data Step (State Ending : Type 0) : Type 0 where
   Ends : (ending : Ending) → Step State Ending
   Stuck : Step State Ending
 
--- a machine: its step, and the input that a state has left
+-- a machine: its step, and the answers that a state has left
 pub record Machine (State Ending : Type 0) : Type 0 where
   pub step : State → Step State Ending
-  pub left : State → List ℕ
+  pub left : State → Answers
 
 -- how far a run has come: what it has said and where it is; what it said, where it was and how it ended;
 -- or that it is stuck

@@ -5,4 +5,5 @@ pub mod Talk
 pub mod MemShelf
 pub mod MemConsole
 pub mod DirShelf
+pub mod Streams
 pub mod StdConsole

@@ -1,13 +1,21 @@
-ghost use Rattle.std.specs.Prelude.{◌≡◌, ◌≤◌, OnOk, OnErr, IfErr, IsErrOf};
+ghost use Rattle.std.specs.Prelude.{◌≡◌, ◌<◌, ◌≤◌, OnOk, OnErr, IfErr, IsErrOf};
 ghost use Rattle.host_face.specs.DirShelf.{load_failed, store_failed};
 
 use crate::shelf::{Shelf, ShelfFail};
 use crate::streams;
 use crate::streams::StreamFailed;
 use std::alloc::Global;
-use std::fs::File;
+use std::fs;
+use std::fs::{File, OpenFile, OpenOptions, Permissions};
+use std::io::ErrorKind;
 use std::marker::Model;
 use std::rt::Files;
+
+/// The most bytes of the name of a new file.
+const PATH_ROOM: usize = 4096;
+
+/// How the name of a new file begins; two digits follow.
+const NEW_FILE: &[u8; 12] = b".mote-store-";
 
 /// The files of the current folder. It tells no content, and counts the failed loads and the failed
 /// stores, each for all names together.
@@ -41,16 +49,104 @@ impl<R: Files> DirShelf<R> {
 
 fn read_file<R: Files>(runtime: &R, alloc: Global, name: &str) -> Result<Vec<u8>, ShelfFail> {
     match File::open(runtime, name) {
-        Ok(mut file) => streams::read_whole(alloc, &mut file),
+        Ok(mut file) => match streams::read_whole(alloc, &mut file) {
+            Ok(bytes) => Ok(bytes),
+            Err(why) => Err(ShelfFail::from(why)),
+        },
         Err(_) => Err(ShelfFail::Failed),
     }
 }
 
+// A regular file is replaced whole, and so is one that is absent. Anything else, as a device, a pipe
+// or a symbolic link, is written in place.
 fn write_file<R: Files>(runtime: &R, name: &str, bytes: &[u8]) -> Result<(), StreamFailed> {
+    match fs::symlink_metadata(runtime, name) {
+        Ok(found) if found.is_file() => {
+            // A file that may not be written is not replaced either.
+            match OpenOptions::new().write(true).open(runtime, name) {
+                Ok(_) => replace_file(runtime, name, Some(found.permissions()), bytes),
+                Err(_) => Err(StreamFailed),
+            }
+        }
+        Ok(_) => write_in_place(runtime, name, bytes),
+        Err(error) if error.kind() == ErrorKind::NotFound => {
+            replace_file(runtime, name, None, bytes)
+        }
+        Err(_) => Err(StreamFailed),
+    }
+}
+
+fn write_in_place<R: Files>(runtime: &R, name: &str, bytes: &[u8]) -> Result<(), StreamFailed> {
     match File::create(runtime, name) {
         Ok(mut file) => streams::write_whole(&mut file, bytes),
         Err(_) => Err(StreamFailed),
     }
+}
+
+// Writes a new file in the folder of the name, and then gives it the name.
+fn replace_file<R: Files>(
+    runtime: &R,
+    name: &str,
+    permissions: Option<Permissions>,
+    bytes: &[u8],
+) -> Result<(), StreamFailed> {
+    let mut room = [0; PATH_ROOM];
+    for number in 0..100 {
+        let Some(beside) = name_beside(name, number, &mut room) else {
+            return Err(StreamFailed);
+        };
+        match File::create_new(runtime, beside) {
+            Ok(mut file) => {
+                if let Some(permissions) = permissions {
+                    // A file system without permissions refuses, and the bytes are stored all the same.
+                    let _ = file.set_permissions(permissions);
+                }
+                return move_file(runtime, file, beside, name, bytes);
+            }
+            Err(error) => {
+                if error.kind() != ErrorKind::AlreadyExists {
+                    return Err(StreamFailed);
+                }
+            }
+        }
+    }
+    Err(StreamFailed)
+}
+
+// Fills the new file and gives it the name. After a failure the new file is gone.
+fn move_file<R: Files>(
+    runtime: &R,
+    mut file: R::File,
+    beside: &str,
+    name: &str,
+    bytes: &[u8],
+) -> Result<(), StreamFailed> {
+    let written = streams::write_whole(&mut file, bytes).is_ok() && file.sync_all().is_ok();
+    drop(file);
+    if written && fs::rename(runtime, beside, name).is_ok() {
+        return Ok(());
+    }
+    let _ = fs::remove_file(runtime, beside);
+    Err(StreamFailed)
+}
+
+// The name of a new file in the folder of this name; None where the room is too small for it.
+fn name_beside<'a>(name: &str, number: u8, room: &'a mut [u8; PATH_ROOM]) -> Option<&'a str>
+    requires { number < 100 }
+{
+    let folder = name.rfind('/').map_or(0, |slash| slash + 1);
+    let digits = [b'0' + number / 10, b'0' + number % 10];
+    let (start, end) = (
+        folder + NEW_FILE.len(),
+        folder + NEW_FILE.len() + digits.len(),
+    );
+    if end > PATH_ROOM {
+        return None;
+    }
+    room[..folder].copy_from_slice(&name.as_bytes()[..folder]);
+    room[folder..start].copy_from_slice(NEW_FILE);
+    room[start..end].copy_from_slice(&digits);
+    str::from_utf8(&room[..end]).ok()
 }
 
 impl<R: Files> Shelf for DirShelf<R> {
@@ -77,8 +173,9 @@ impl<R: Files> Shelf for DirShelf<R> {
         result
     }
 
-    /// Makes the file of this name hold the bytes alone. `Failed` where it cannot be made or written;
-    /// it may then hold the first of them.
+    /// Makes the file of this name hold the bytes alone. `Failed` where it cannot be made or written. A
+    /// regular file then holds what it held, and an absent one is absent; what is of another kind, as a
+    /// device or a symbolic link, is written in place, and may then hold the first of the bytes.
     fn store(&mut self, name: &str, bytes: &[u8]) -> Result<(), ShelfFail>
         ensures done { OnOk result (self.new ≡ self.old) }
         ensures undone { OnErr result (self.new ≡ store_failed self.old) }

@@ -1,6 +1,6 @@
 ghost use Rattle.std.specs.Prelude.{◌≡◌, ◌≤◌, [], ◌∷◌, IfOk, OnOk, OnErr};
 ghost use Rattle.std.specs.Option.{option_to_list};
-ghost use Rattle.std.specs.Io.KnownBytes.{Consumes, Appends, IsAtEnd};
+ghost use Rattle.std.specs.Io.KnownBytes.{Consumes, Appends, Keeps, IsAtEnd};
 ghost use Rattle.host_face.specs.StdConsole.{failed};
 
 use crate::console::{Console, ConsoleFailed};
@@ -62,11 +62,13 @@ impl<I: Read, O: Write, N: Write> Console for StdConsole<I, O, N> {
 
     ghost room = { λ _. None };
 
-    /// The next byte of the input, or nothing at its end. Fails where the read fails.
+    /// The next byte of the input, or nothing at its end. Fails where the read fails, and
+    /// then leaves the input.
     fn get(&mut self) -> Result<Option<u8>, ConsoleFailed>
         ensures taken { IfOk result (λ byte.
             Consumes (I.remaining self.old.input) (I.remaining self.new.input) (option_to_list byte)) }
         ensures end { IfOk result (λ byte. byte ≡ None → IsAtEnd (I.remaining self.new.input)) }
+        ensures kept { OnErr result (Keeps (I.remaining self.old.input) (I.remaining self.new.input)) }
         ensures done { OnOk result (self.new ≡ record self.old { input = self.new.input }) }
         ensures undone { OnErr result (self.new ≡ failed (record self.old { input = self.new.input })) }
         ensures faults { self.old.faults ≤ self.new.faults }
@@ -80,15 +82,17 @@ impl<I: Read, O: Write, N: Write> Console for StdConsole<I, O, N> {
         }
     }
 
-    /// Writes the byte to the output. Fails where the write fails or takes nothing.
+    /// Writes the byte to the output. Fails where the write fails or takes nothing, and then leaves the
+    /// output.
     fn put(&mut self, byte: u8) -> Result<(), ConsoleFailed>
         ensures written { OnOk result
             (Appends (O.contents self.old.output) (O.contents self.new.output) (byte ∷ [])) }
+        ensures kept { OnErr result (Keeps (O.contents self.old.output) (O.contents self.new.output)) }
         ensures done { OnOk result (self.new ≡ record self.old { output = self.new.output }) }
         ensures undone { OnErr result (self.new ≡ failed (record self.old { output = self.new.output })) }
         ensures faults { self.old.faults ≤ self.new.faults }
     {
-        match streams::write_whole(&mut self.writer, &[byte]) {
+        match streams::write_byte(&mut self.writer, byte) {
             Ok(()) => Ok(()),
             Err(StreamFailed) => {
                 self.failures = self.failures.saturating_add(1);
@@ -97,15 +101,17 @@ impl<I: Read, O: Write, N: Write> Console for StdConsole<I, O, N> {
         }
     }
 
-    /// Writes the byte to the notes. Fails where the write fails or takes nothing.
+    /// Writes the byte to the notes. Fails where the write fails or takes nothing, and then leaves the
+    /// notes.
     fn note(&mut self, byte: u8) -> Result<(), ConsoleFailed>
         ensures written { OnOk result
             (Appends (N.contents self.old.notes) (N.contents self.new.notes) (byte ∷ [])) }
+        ensures kept { OnErr result (Keeps (N.contents self.old.notes) (N.contents self.new.notes)) }
         ensures done { OnOk result (self.new ≡ record self.old { notes = self.new.notes }) }
         ensures undone { OnErr result (self.new ≡ failed (record self.old { notes = self.new.notes })) }
         ensures faults { self.old.faults ≤ self.new.faults }
     {
-        match streams::write_whole(&mut self.noter, &[byte]) {
+        match streams::write_byte(&mut self.noter, byte) {
             Ok(()) => Ok(()),
             Err(StreamFailed) => {
                 self.failures = self.failures.saturating_add(1);

@@ -1,11 +1,11 @@
 ghost use Rattle.std.specs.Prelude.{◌≡◌, ◌≤◌, IfOk};
 
 use super::*;
-use crate::streams::{StreamFailed, read_whole, write_whole};
+use crate::streams::{ReadFailed, StreamFailed, read_whole, write_whole};
 use std::alloc::Global;
-use std::io;
 use std::io::{ErrorKind, Read, Write};
 use std::test::Fail;
+use std::{fs, io};
 
 #[test]
 fn a_shelf_keeps_what_is_put_and_stored(rt: HostRuntime) -> Result<(), Fail> {
@@ -93,9 +93,13 @@ fn a_folder_gives_what_was_stored(rt: HostRuntime) -> Result<(), Fail> {
     let mut shelf = DirShelf::new(&rt);
     let stored = shelf.store(name, b"longer").is_ok() && shelf.store(name, b"bytes").is_ok();
     let loaded = shelf.load(rt.alloc(), name);
-    std::fs::remove_file(&rt, name)?;
+    let emptied = shelf.store(name, b"").is_ok();
+    let empty = shelf.load(rt.alloc(), name);
+    fs::remove_file(&rt, name)?;
     assert!(rt; stored);
     assert_eq!(rt; loaded?.as_slice(), b"bytes".as_slice());
+    assert!(rt; emptied);
+    assert!(rt; empty?.is_empty());
     assert_eq!(rt;
         shelf.load(rt.alloc(), name).err(),
         Some(ShelfFail::Failed),
@@ -103,6 +107,14 @@ fn a_folder_gives_what_was_stored(rt: HostRuntime) -> Result<(), Fail> {
     );
     assert_eq!(rt; shelf.store("no/such/folder", b""), Err(ShelfFail::Failed));
     Ok(())
+}
+
+#[test]
+fn what_is_no_regular_file_is_written_in_place(rt: HostRuntime) {
+    let mut shelf = DirShelf::new(&rt);
+    assert_eq!(rt; shelf.store("/dev/null", b"bytes"), Ok(()));
+    assert_eq!(rt; shelf.store("/dev/full", b"bytes"), Err(ShelfFail::Failed));
+    assert!(rt; fs::metadata(&rt, "/dev/null").is_ok_and(|found| !found.is_file()));
 }
 
 #[test]
@@ -117,7 +129,7 @@ fn the_standard_streams_answer(rt: HostRuntime) {
 fn a_whole_read_passes_over_interruptions_and_stops_at_an_error(
     rt: HostRuntime,
 ) -> Result<(), Fail> {
-    let table: [(&[Step], Result<&[u8], ShelfFail>); 4] = [
+    let table: [(&[Step], Result<&[u8], ReadFailed>); 4] = [
         (
             &[
                 Step::Interrupted,
@@ -129,7 +141,7 @@ fn a_whole_read_passes_over_interruptions_and_stops_at_an_error(
         ),
         (
             &[Step::Moves(2), Step::Broken, Step::Moves(9)],
-            Err(ShelfFail::Failed),
+            Err(ReadFailed::Stream),
         ),
         (&[Step::Moves(2)], Ok(b"he")),
         (&[], Ok(b"")),

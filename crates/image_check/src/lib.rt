@@ -16,8 +16,6 @@ mod listing;
 mod names;
 mod refusal;
 mod send;
-#[cfg(test)]
-mod tests;
 mod verdict;
 mod visit;
 

@@ -11,8 +11,10 @@ use Rattle.image_form.specs.declared.refusal.FormRefusal.{FormRefusal}
 use Rattle.image_form.specs.Format.{counted, type_bytes, sig_bytes, method_bytes}
 use Rattle.image_form.specs.Library.{signature}
 use Rattle.image_form.specs.Grammar.{Each, EachAfter, IsType, IsSelector, IsMethod, HasSignatures, IsMain, IsImage, most_types, most_methods}
-use Rattle.image_form.specs.Reading.{◌>>=◌, in_statics, in_main, static_refs_at, cell_at, static_cells_at, is_bare, names_main, main_at, first_unmatched, parts_at, matched}
-use Rattle.image_form.proofs.Readers.{IsBytes, Refuses, Taken, Reads, Reads-as, ok_then, bound, refuses_then, same_answer, made, field_reads, u2_reads, u2_tested, counted_reads, most_reads}
+use Rattle.byte_read.specs.Reading.{◌>>=◌}
+use Rattle.image_form.specs.Reading.{in_statics, in_main, static_refs_at, cell_at, static_cells_at, is_bare, names_main, main_at, first_unmatched, parts_at, matched}
+use Rattle.byte_read.proofs.Steps.{IsBytes, then_ok, ok_is}
+use Rattle.image_form.proofs.Readers.{Refuses, Taken, Reads, Reads-as, bound, refuses_then, made, field_reads, u2_reads, u2_tested, counted_reads, most_reads}
 use Rattle.image_form.proofs.TypeParts.{types_reads}
 use Rattle.image_form.proofs.MethodParts.{selectors_reads, methods_reads}
 use Rattle.image_form.proofs.Matching.{same_sig, matched_from, matched_to}
@@ -157,7 +159,7 @@ abbrev pub match_rows : Image × List ℕ → Result (Image × List ℕ) FormRef
 match_rows part = matched (unmatched_in part.0) part
 
 matched_parts : (place : Option ℕ) (part x : Image × List ℕ) → matched place part ≡ Ok x → (place ≡ None) × (part ≡ x)
-matched_parts None part x e = (refl, same_answer part x e)
+matched_parts None part x e = (refl, ok_is part x e)
 matched_parts (Some index) part x e = absurd cc
 
 matched_refuses : (place : Option ℕ) (part : Image × List ℕ) → Refuses (matched place part)
@@ -166,7 +168,7 @@ matched_refuses (Some index) part = tt
 
 image_again : (image : Image) (rest : List ℕ) → IsImage image → (parts_at (part_bytes image ++ rest) >>= match_rows) ≡ Ok (image, rest)
 image_again image rest h =
-    ok_then match_rows (parts_reads.again image rest (of_parts image h)) (ap (λ (place : Option ℕ). matched place (image, rest)) (matched_to image.selectors image.methods 0 [] image.types h.rows_are))
+    then_ok match_rows _ (parts_reads.again image rest (of_parts image h)) (ap (λ (place : Option ℕ). matched place (image, rest)) (matched_to image.selectors image.methods 0 [] image.types h.rows_are))
 
 image_taken : (bytes : List ℕ) (x : Image × List ℕ) → IsBytes bytes → (parts_at bytes >>= match_rows) ≡ Ok x → Taken Image IsImage part_bytes bytes x
 image_taken bytes x fits e =

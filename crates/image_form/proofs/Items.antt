@@ -1,5 +1,7 @@
 -- Reading items one after the other, as a loop does.
-use Rattle.std.proofs.Common.{◌≡◌, ◌⊎◌, ℕ, suc, ◌-◌, ◌+◌, ◌≤◌, ◌<◌, List, [], ◌∷◌, ◌++◌, Result, Ok, Err, length, length-append, refl, sym, ap, ◌∙◌, arith, inl, inr}
+use Rattle.std.proofs.Common.{◌≡◌, ◌⊎◌, ℕ, ◌-◌, ◌+◌, ◌≤◌, ◌<◌, List, [], ◌∷◌, ◌++◌, Result, Ok, Err, length, length-append, refl, sym, ap, ◌∙◌, arith, inl, inr}
+use Rattle.byte_read.specs.Reading.{one_more}
+use Rattle.byte_read.proofs.Loop.{one_left, is_done as steps_done, item_goes_on}
 use Rattle.image_form.specs.declared.refusal.FormRefusal.{FormRefusal}
 use Rattle.image_form.specs.declared.refusal.FormRefusal.TheVariants.{NotInfusion, FormVersion, Truncated, TrailingBytes, BadTable, Memory}
 use Rattle.image_form.specs.Refused.{Shows}
@@ -35,40 +37,20 @@ err_shows view (BadTable table index) read (inl e) = absurd cc
 
 -- ---- the loop
 
--- the room that is left from an index up to the count
-room_left : (count index : ℕ) → index < count → count - index ≡ suc (count - (index + 1))
-room_left count index lt = omega arith
-
-goes_one_on : {A : Type 0} (item_at : Part A) (room : ℕ) (before : List A) (bytes : List ℕ) (item : A) (after : List ℕ) (total : Result (List A × List ℕ) FormRefusal)
-    → item_at before bytes ≡ Ok (item, after) → items_at item_at (suc room) before bytes ≡ total → items_at item_at room (before ++ item ∷ []) after ≡ total
-unfolding items_at
-goes_one_on item_at room before bytes item after total h so_far = rw h at so_far
-
 pub goes_on : {A : Type 0} (item_at : Part A) (count index : ℕ) (before : List A) (bytes : List ℕ) (item : A) (after : List ℕ) (total : Result (List A × List ℕ) FormRefusal)
     → index < count → item_at before bytes ≡ Ok (item, after) → items_at item_at (count - index) before bytes ≡ total → items_at item_at (count - (index + 1)) (before ++ item ∷ []) after ≡ total
-goes_on item_at count index before bytes item after total lt h so_far =
-    let k = room_left count index lt in
-    goes_one_on item_at (count - (index + 1)) before bytes item after total h (rw k at so_far)
-
-fails_once : {A : Type 0} (item_at : Part A) (room : ℕ) (before : List A) (bytes : List ℕ) (why : FormRefusal) → item_at before bytes ≡ Err why → items_at item_at (suc room) before bytes ≡ Err why
-unfolding items_at
-fails_once item_at room before bytes why e = rw e refl
+goes_on item_at count index before bytes item after total lt h so_far = item_goes_on item_at before count index bytes item after total lt h so_far
 
 pub ends : {A : Type 0} (item_at : Part A) (why : FormRefusal) (count index : ℕ) (before : List A) (bytes : List ℕ) (total : Result (List A × List ℕ) FormRefusal) → index < count
     → Shows (λ x. x) (Err why) (item_at before bytes) → items_at item_at (count - index) before bytes ≡ total → Shows (λ x. x) (Err why) total
 ends item_at why count index before bytes total lt h so_far =
-    let k = room_left count index lt in
     elim (err_says (λ x. x) why (item_at before bytes) h) [
       | inl memory ↦ err_shows (λ x. x) why total (inl memory)
-      | inr e ↦ err_shows (λ x. x) why total (inr (sym (rw k at so_far) ∙ fails_once item_at (count - (index + 1)) before bytes why e))
+      | inr e ↦ err_shows (λ x. x) why total (inr (sym so_far ∙ one_left (one_more item_at) before count index bytes lt ∙ rw e refl))
     ]
 
 pub is_done : {A : Type 0} (item_at : Part A) (count index : ℕ) (before : List A) (bytes : List ℕ) (total : Result (List A × List ℕ) FormRefusal) → count ≤ index → items_at item_at (count - index) before bytes ≡ total → total ≡ Ok (before, bytes)
-unfolding items_at
-is_done item_at count index before bytes total le so_far =
-    let k : count - index ≡ 0 = omega arith in
-    let now : items_at item_at 0 before bytes ≡ total = rw k at so_far in
-    sym now
+is_done item_at count index before bytes total le so_far = steps_done (one_more item_at) before count index bytes total le so_far
 
 -- an item more
 pub one_longer : {A : Type 0} (before after : List A) (item : A) (count : ℕ) → after ≡ before ++ item ∷ [] → length before ≡ count → length after ≡ count + 1

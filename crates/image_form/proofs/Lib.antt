@@ -11,3 +11,4 @@ pub mod Whole
 pub mod Prefixes
 pub mod SmallImage
 pub mod Refusals
+pub mod AtOnce

@@ -1,5 +1,5 @@
 -- Fronts of bytes: what reading says of a prefix, and what it says of the whole.
-use Rattle.std.proofs.Common.{◌≡◌, ◌⊎◌, ℕ, ◌<◌, ◌≤◌, Bool, true, false, cond, eqb, List, [], ◌∷◌, ◌++◌, length, take, drop, Result, Ok, Err, refl, sym, ap, subst, ◌∙◌, arith, inl, inr, length-append, length-take, length-drop}
+use Rattle.std.proofs.Common.{◌≡◌, ◌⊎◌, ℕ, ◌<◌, ◌≤◌, Bool, true, false, cond, eqb, List, ◌++◌, length, take, drop, Result, Ok, Err, refl, sym, ap, subst, ◌∙◌, arith, inl, inr, length-append, length-take, length-drop}
 use Rattle.std.specs.Str.{bytes_eq}
 use Rattle.std.proofs.lemmas.Bool.{cases_lt, ne_eqb}
 use Rattle.std.proofs.lemmas.List.{take-append-le, drop-append-le}
@@ -9,13 +9,15 @@ use Rattle.image_form.specs.declared.refusal.FormRefusal.{FormRefusal}
 use Rattle.image_form.specs.declared.refusal.FormRefusal.TheVariants.{NotInfusion, FormVersion, Truncated, TrailingBytes, BadTable, Memory}
 use Rattle.image_form.specs.Format.{magic}
 use Rattle.image_form.specs.Grammar.{IsEncoded}
-use Rattle.image_form.specs.Reading.{◌>>=◌, u2_at, parts_at, whole_of, versioned, image_of}
+use Rattle.byte_read.specs.Reading.{◌>>=◌}
+use Rattle.image_form.specs.Reading.{u2_at, parts_at, whole_of, versioned, image_of}
 use Rattle.image_form.specs.Refused.{HasVersion, IsRefused}
 use Rattle.image_form.specs.Prefixes.{IsFault}
-use Rattle.image_form.proofs.Readers.{ok_then}
+use Rattle.byte_read.proofs.Steady.{Persists}
+use Rattle.byte_read.proofs.Steps.{number_short, then_ok}
 use Rattle.image_form.proofs.ImageParts.{match_rows}
 use Rattle.image_form.proofs.Whole.{ends, whole_is, encoding_reads, refusal, same_refusal, refused_reads}
-use Rattle.image_form.proofs.PrefixesReaders.{Stands, all_parts, all_steady}
+use Rattle.image_form.proofs.PrefixesReaders.{all_parts, all_steady}
 
 err_then : {A B : Type 0} {r : Result A FormRefusal} {why : FormRefusal} (f : A → Result B FormRefusal) → r ≡ Err why → (r >>= f) ≡ Err why
 err_then f e = rw e refl
@@ -46,13 +48,13 @@ data Prefix (prefix rest : List ℕ) : Type 0 where
   faulty : (why : FormRefusal) → versioned prefix ≡ Err why → versioned (prefix ++ rest) ≡ Err why → Prefix prefix rest
   full : (x : Image × List ℕ) → versioned prefix ≡ ends x → versioned (prefix ++ rest) ≡ ends (x.0, x.1 ++ rest) → Prefix prefix rest
 
-prefix_by : (prefix rest : List ℕ) (r longer : Result (Image × List ℕ) FormRefusal) → all_parts prefix ≡ r → all_parts (prefix ++ rest) ≡ longer → Stands rest r longer → Prefix prefix rest
-prefix_by prefix rest (Ok x) longer e h stands = full x (versioned_is prefix ∙ ok_then ends e refl) (versioned_is (prefix ++ rest) ∙ ok_then ends (h ∙ stands) refl)
+prefix_by : (prefix rest : List ℕ) (r longer : Result (Image × List ℕ) FormRefusal) → all_parts prefix ≡ r → all_parts (prefix ++ rest) ≡ longer → Persists Truncated rest r longer → Prefix prefix rest
+prefix_by prefix rest (Ok x) longer e h stands = full x (versioned_is prefix ∙ then_ok ends _ e refl) (versioned_is (prefix ++ rest) ∙ then_ok ends _ (h ∙ stands) refl)
 prefix_by prefix rest (Err why) longer e h (inl missed) = cut (versioned_is prefix ∙ err_then ends e ∙ ap refusal missed)
 prefix_by prefix rest (Err why) longer e h (inr same) = faulty why (versioned_is prefix ∙ err_then ends e) (versioned_is (prefix ++ rest) ∙ err_then ends (h ∙ same))
 
 prefix_is : (prefix rest : List ℕ) → Prefix prefix rest
-prefix_is prefix rest = prefix_by prefix rest (all_parts prefix) (all_parts (prefix ++ rest)) refl refl (all_steady.stands prefix rest)
+prefix_is prefix rest = prefix_by prefix rest (all_parts prefix) (all_parts (prefix ++ rest)) refl refl (all_steady.persists prefix rest)
 
 -- ---- the magic
 
@@ -138,15 +140,9 @@ prefixes_of_truncated prefix rest e long =
 
 -- ---- versions
 
-u2_short : (bytes : List ℕ) → length bytes < 2 → u2_at bytes ≡ Err Truncated
-unfolding u2_at
-u2_short [] short = refl
-u2_short (first ∷ []) short = refl
-u2_short (first ∷ second ∷ rest) short = absurd (omega (arith, short))
-
 versioned_short : (bytes : List ℕ) → length bytes < 2 → versioned bytes ≡ Err Truncated
 unfolding versioned
-versioned_short bytes short = err_then _ (u2_short bytes short)
+versioned_short bytes short = err_then _ (number_short Truncated 2 bytes short)
 
 -- the version is there
 version_long : (bytes : List ℕ) (version : ℕ) → HasVersion bytes version → 6 ≤ length bytes

@@ -1,10 +1,8 @@
 -- Each part of an infusion is read by the prefix: what is read, and a rule that fails, stand whatever
 -- follows.
-use Rattle.std.proofs.Common.{◌≡◌, ◌⊎◌, ℕ, zero, suc, ◌+◌, ◌-◌, ◌≤◌, Bool, true, false, ◌&&◌, ◌||◌, not, cond, ltb, leb, eqb, List, [], ◌∷◌, ◌++◌, length, take, drop, Option, Some, None, Result, Ok, Err, refl, arith, inl, inr, length-append}
+use Rattle.std.proofs.Common.{ℕ, ◌+◌, ◌-◌, ◌&&◌, ◌||◌, not, cond, leb, eqb, List, [], length, Option, Some, None, Err}
 use Rattle.std.specs.Prelude.{slice_get}
 use Rattle.std.specs.List.{list_any}
-use Rattle.std.proofs.lemmas.Bool.{ltb-false, le-ltb}
-use Rattle.std.proofs.lemmas.List.{take-append-le, drop-append-le}
 use Rattle.image_instr.specs.declared.signature.Sig.{Sig}
 use Rattle.image_form.specs.declared.record.Image.{Image}
 use Rattle.image_form.specs.declared.record.TypeEntry.{TypeEntry}
@@ -16,92 +14,19 @@ use Rattle.image_form.specs.declared.refusal.FormRefusal.{FormRefusal}
 use Rattle.image_form.specs.declared.refusal.FormRefusal.TheVariants.{FormVersion, Truncated}
 use Rattle.image_form.specs.Library.{signature, names_type, names_class, names_parent, names_interface, refs_of, nums_of}
 use Rattle.image_form.specs.Grammar.{is_above, is_ref_array, is_num_array, is_kind, most_types, most_methods}
-use Rattle.image_form.specs.Reading.{◌>>=◌, u1_at, u2_at, slice_at, tested, items_at, in_types, in_selectors, in_methods, in_statics, in_main, interface_at, interfaces_at, row_at, rows_at, name_at, refs_at, nums_at, class_at, element_at, kind_at, tagged_at, type_at, types_at, signature_at, selector_at, selectors_at, handler_at, handlers_at, code_at, frame_at, method_at, methods_at, static_refs_at, cell_at, static_cells_at, names_main, main_at, parts_at, matched}
+use Rattle.byte_read.specs.Reading.{◌>>=◌}
+use Rattle.image_form.specs.Reading.{u2_at, tested, items_at, in_types, in_selectors, in_methods, in_statics, in_main, interface_at, interfaces_at, row_at, rows_at, name_at, refs_at, nums_at, class_at, element_at, kind_at, tagged_at, type_at, types_at, signature_at, selector_at, selectors_at, handler_at, handlers_at, code_at, frame_at, method_at, methods_at, static_refs_at, cell_at, static_cells_at, names_main, main_at, parts_at, matched}
+use Rattle.byte_read.proofs.Steady.{IsSteady as IsSteadyWith, done, failing, either, first, last, tested as tested_steady, u1_steady, number_steady, slice_steady, steps_steady, one_more_steady}
 use Rattle.image_form.proofs.Readers.{Reader}
 use Rattle.image_form.proofs.ImageParts.{unmatched_in, match_rows}
 
--- ---- steadiness
-
--- the second answer is the first one with these bytes more after it, unless the first one missed bytes
-abbrev pub Stands : {A : Type 0} → List ℕ → Result (A × List ℕ) FormRefusal → Result (A × List ℕ) FormRefusal → Type 0
-Stands more (Ok x) longer = longer ≡ Ok (x.0, x.1 ++ more)
-Stands more (Err why) longer = (why ≡ Truncated) ⊎ (longer ≡ Err why)
-
--- bytes more after the others change no answer of the reader, unless it missed bytes
-pub record IsSteady {A : Type 0} (read : Reader A) : Type 0 where
-  pub stands : (bytes more : List ℕ) → Stands more (read bytes) (read (bytes ++ more))
-
--- a value that takes no bytes
-done : {A : Type 0} (value : A) → IsSteady (λ bytes. Ok (value, bytes))
-done value = record { stands = λ bytes more. refl }
-
--- a refusal that looks at no bytes
-failing : {A : Type 0} (why : FormRefusal) → IsSteady {A = A} (λ bytes. Err why)
-failing why = record { stands = λ bytes more. inr refl }
-
--- one of two readers
-either : {A : Type 0} {read other : Reader A} (b : Bool) → IsSteady read → IsSteady other → IsSteady (λ bytes. cond b (read bytes) (other bytes))
-either true one another = one
-either false one another = another
-
-holds_then : {A B : Type 0} (more : List ℕ) (r longer : Result (A × List ℕ) FormRefusal) (next : A → Reader B)
-    → Stands more r longer → ((a : A) → IsSteady (next a)) → Stands more (r >>= λ y. next y.0 y.1) (longer >>= λ y. next y.0 y.1)
-holds_then more (Ok x) longer next h others = rw h ((others x.0).stands x.1 more)
-holds_then more (Err why) longer next (inl e) others = inl e
-holds_then more (Err why) longer next (inr e) others = inr (rw e refl)
-
--- one reader after another
-first : {A B : Type 0} {read : Reader A} {next : A → Reader B} → IsSteady read → ((a : A) → IsSteady (next a)) → IsSteady (λ bytes. read bytes >>= λ y. next y.0 y.1)
-first {read = read} {next = next} one others = record { stands = λ bytes more. holds_then more (read bytes) (read (bytes ++ more)) next (one.stands bytes more) others }
-
--- another value of the same part
-last : {A B : Type 0} {read : Reader A} → IsSteady read → (view : A → B) → IsSteady (λ bytes. read bytes >>= λ y. Ok (view y.0, y.1))
-last one view = first one (λ a. done (view a))
-
-tested_holds : {A : Type 0} (more : List ℕ) (test : A → Bool) (why : FormRefusal) (r longer : Result (A × List ℕ) FormRefusal) → Stands more r longer → Stands more (tested test why r) (tested test why longer)
-tested_holds more test why (Ok x) longer h = rw h ((either (test x.0) (done x.0) (failing why)).stands x.1 more)
-tested_holds more test why (Err other) longer (inl e) = inl e
-tested_holds more test why (Err other) longer (inr e) = inr (rw e refl)
-
--- a part whose value meets a test
-tested_steady : {A : Type 0} {read : Reader A} → IsSteady read → (test : A → Bool) (why : FormRefusal) → IsSteady (λ bytes. tested test why (read bytes))
-tested_steady {read = read} one test why = record { stands = λ bytes more. tested_holds more test why (read bytes) (read (bytes ++ more)) (one.stands bytes more) }
-
 -- ---- bytes, numbers and lists
 
-u1_holds : (bytes more : List ℕ) → Stands more (u1_at bytes) (u1_at (bytes ++ more))
-unfolding u1_at
-u1_holds [] more = inl refl
-u1_holds (byte ∷ rest) more = refl
-
-u1_steady : IsSteady u1_at
-u1_steady = record { stands = u1_holds }
-
-u2_holds : (bytes more : List ℕ) → Stands more (u2_at bytes) (u2_at (bytes ++ more))
-unfolding u2_at
-u2_holds [] more = inl refl
-u2_holds (first ∷ []) more = inl refl
-u2_holds (first ∷ second ∷ rest) more = refl
-
-u2_steady : IsSteady u2_at
-u2_steady = record { stands = u2_holds }
-
-slice_holds : (size : ℕ) (bytes more : List ℕ) (short : Bool) → ltb (length bytes) size ≡ short → Stands more (cond short (Err Truncated) (Ok (take size bytes, drop size bytes))) (slice_at size (bytes ++ more))
-unfolding slice_at
-slice_holds size bytes more true e = inl refl
-slice_holds size bytes more false e =
-    let long : size ≤ length bytes = ltb-false _ _ e in
-    let still : ltb (length (bytes ++ more)) size ≡ false = le-ltb _ _ (omega (arith, long, length-append bytes more)) in
-    rw (still, take-append-le size bytes more long, drop-append-le size bytes more long) refl
-
-slice_steady : (size : ℕ) → IsSteady (slice_at size)
-unfolding slice_at
-slice_steady size = record { stands = λ bytes more. slice_holds size bytes more (ltb (length bytes) size) refl }
+abbrev pub IsSteady : {A : Type 0} → Reader A → Type 0
+IsSteady read = IsSteadyWith Truncated read
 
 items_steady : {A : Type 0} {item_at : List A → Reader A} → ((before : List A) → IsSteady (item_at before)) → (room : ℕ) (before : List A) → IsSteady (items_at item_at room before)
-unfolding items_at
-items_steady one zero before = done before
-items_steady one (suc room) before = first (one before) (λ item. items_steady one room (before ++ item ∷ []))
+items_steady one room before = steps_steady (one_more_steady one) before room
 
 -- so many items after their count
 counted_steady : {A : Type 0} {count_at : Reader ℕ} {item_at : List A → Reader A} → IsSteady count_at → ((before : List A) → IsSteady (item_at before)) → IsSteady (λ bytes. count_at bytes >>= λ count. items_at item_at count.0 [] count.1)
@@ -109,42 +34,42 @@ counted_steady counts one = first counts (λ count. items_steady one count [])
 
 -- a count of at most so many
 most_steady : (most : ℕ) (why : FormRefusal) → IsSteady (λ bytes. tested (λ count. leb count most) why (u2_at bytes))
-most_steady most why = tested_steady u2_steady (λ count. leb count most) why
+most_steady most why = tested_steady (number_steady 2) (λ count. leb count most) why
 
 -- ---- types
 
 interface_steady : (types : List TypeEntry) (before : List ℕ) → IsSteady (interface_at types before)
 unfolding interface_at
-interface_steady types before = tested_steady u2_steady (names_interface types) (in_types (length types))
+interface_steady types before = tested_steady (number_steady 2) (names_interface types) (in_types (length types))
 
 interfaces_steady : (types : List TypeEntry) → IsSteady (interfaces_at types)
 unfolding interfaces_at
-interfaces_steady types = counted_steady u2_steady (interface_steady types)
+interfaces_steady types = counted_steady (number_steady 2) (interface_steady types)
 
 row_steady : (index : ℕ) (before : List DispatchRow) → IsSteady (row_at index before)
 unfolding row_at
 row_steady index before =
-    first (tested_steady u2_steady (is_above (slice_get before (length before - 1))) (in_types index)) (λ selector. last u2_steady (λ method. record { selector = selector; method = method }))
+    first (tested_steady (number_steady 2) (is_above (slice_get before (length before - 1))) (in_types index)) (λ selector. last (number_steady 2) (λ method. record { selector = selector; method = method }))
 
 rows_steady : (index flags : ℕ) → IsSteady (rows_at index flags)
 unfolding rows_at
-rows_steady index flags = counted_steady (tested_steady u2_steady (λ count. eqb flags 0 || eqb count 0) (in_types index)) (row_steady index)
+rows_steady index flags = counted_steady (tested_steady (number_steady 2) (λ count. eqb flags 0 || eqb count 0) (in_types index)) (row_steady index)
 
 name_steady : IsSteady name_at
 unfolding name_at
-name_steady = first u2_steady slice_steady
+name_steady = first (number_steady 2) slice_steady
 
 refs_steady : (types : List TypeEntry) (parent : ℕ) → IsSteady (refs_at types parent)
-refs_steady types parent = tested_steady u2_steady (leb (refs_of types parent)) (in_types (length types))
+refs_steady types parent = tested_steady (number_steady 2) (leb (refs_of types parent)) (in_types (length types))
 
 nums_steady : (types : List TypeEntry) (parent refs : ℕ) → IsSteady (nums_at types parent refs)
 nums_steady types parent refs =
-    tested_steady u2_steady (λ nums. leb (nums_of types parent) nums && leb (2 + (refs + nums)) 32767) (in_types (length types))
+    tested_steady (number_steady 2) (λ nums. leb (nums_of types parent) nums && leb (2 + (refs + nums)) 32767) (in_types (length types))
 
 class_steady : (types : List TypeEntry) → IsSteady (class_at types)
 unfolding class_at
 class_steady types =
-    first (tested_steady u2_steady (names_parent types) (in_types (length types))) (λ parent.
+    first (tested_steady (number_steady 2) (names_parent types) (in_types (length types))) (λ parent.
     first (tested_steady u1_steady (λ flags. leb flags 3) (in_types (length types))) (λ flags.
     first (refs_steady types parent) (λ refs.
     first (nums_steady types parent refs) (λ nums.
@@ -154,7 +79,7 @@ class_steady types =
 
 element_steady : (types : List TypeEntry) → IsSteady (element_at types)
 unfolding element_at
-element_steady types = tested_steady u2_steady (λ element. names_type types element && not (list_any (is_ref_array element) types)) (in_types (length types))
+element_steady types = tested_steady (number_steady 2) (λ element. names_type types element && not (list_any (is_ref_array element) types)) (in_types (length types))
 
 kind_steady : (types : List TypeEntry) → IsSteady (kind_at types)
 unfolding kind_at
@@ -179,7 +104,7 @@ types_steady = counted_steady (most_steady most_types (in_types 0)) type_steady
 
 signature_steady : (refs : ℕ) (why : FormRefusal) → IsSteady (signature_at refs why)
 unfolding signature_at
-signature_steady refs why = first u2_steady (λ cells. last (tested_steady u1_steady (λ result. leb result 3) why) (λ result. signature refs cells result))
+signature_steady refs why = first (number_steady 2) (λ cells. last (tested_steady u1_steady (λ result. leb result 3) why) (λ result. signature refs cells result))
 
 selector_steady : (before : List Sig) → IsSteady (selector_at before)
 unfolding selector_at
@@ -193,23 +118,23 @@ selectors_steady = counted_steady (most_steady 16384 (in_selectors 0)) selector_
 handler_steady : (types : List TypeEntry) (index : ℕ) (before : List HandlerEntry) → IsSteady (handler_at types index before)
 unfolding handler_at
 handler_steady types index before =
-    first u2_steady (λ start. first u2_steady (λ end. first u2_steady (λ target.
-    last (tested_steady u2_steady (λ class. eqb class 65535 || names_class types class) (in_methods index)) (λ class. record { start = start; end = end; target = target; class = class }))))
+    first (number_steady 2) (λ start. first (number_steady 2) (λ end. first (number_steady 2) (λ target.
+    last (tested_steady (number_steady 2) (λ class. eqb class 65535 || names_class types class) (in_methods index)) (λ class. record { start = start; end = end; target = target; class = class }))))
 
 handlers_steady : (types : List TypeEntry) (index : ℕ) → IsSteady (handlers_at types index)
 unfolding handlers_at
-handlers_steady types index = counted_steady u2_steady (handler_steady types index)
+handlers_steady types index = counted_steady (number_steady 2) (handler_steady types index)
 
 code_steady : (index : ℕ) → IsSteady (code_at index)
 unfolding code_at
-code_steady index = first (tested_steady u2_steady (leb 1) (in_methods index)) slice_steady
+code_steady index = first (tested_steady (number_steady 2) (leb 1) (in_methods index)) slice_steady
 
 frame_steady : (index : ℕ) (sig : Sig) → IsSteady (frame_at index sig)
 unfolding frame_at
 frame_steady index sig =
-    first (tested_steady u2_steady (leb sig.refs) (in_methods index)) (λ ref_locals.
-    first (tested_steady u2_steady (leb sig.cells) (in_methods index)) (λ cell_locals.
-    last (tested_steady u2_steady (λ body. leb (ref_locals + cell_locals) body && leb body 32763) (in_methods index)) (λ body. (ref_locals, cell_locals, body))))
+    first (tested_steady (number_steady 2) (leb sig.refs) (in_methods index)) (λ ref_locals.
+    first (tested_steady (number_steady 2) (leb sig.cells) (in_methods index)) (λ cell_locals.
+    last (tested_steady (number_steady 2) (λ body. leb (ref_locals + cell_locals) body && leb body 32763) (in_methods index)) (λ body. (ref_locals, cell_locals, body))))
 
 method_steady : (types : List TypeEntry) (before : List Method) → IsSteady (method_at types before)
 unfolding method_at
@@ -233,7 +158,7 @@ static_refs_steady = most_steady 16384 in_statics
 
 cell_steady : (before : List ℕ) → IsSteady (cell_at before)
 unfolding cell_at
-cell_steady before = u2_steady
+cell_steady before = (number_steady 2)
 
 static_cells_steady : IsSteady static_cells_at
 unfolding static_cells_at
@@ -241,7 +166,7 @@ static_cells_steady = counted_steady (most_steady 16384 in_statics) cell_steady
 
 main_steady : (methods : List Method) → IsSteady (main_at methods)
 unfolding main_at
-main_steady methods = tested_steady u2_steady (names_main methods) in_main
+main_steady methods = tested_steady (number_steady 2) (names_main methods) in_main
 
 -- ---- the whole
 
@@ -260,9 +185,9 @@ matched_steady : (image : Image) (place : Option ℕ) → IsSteady (λ bytes. ma
 matched_steady image None = done image
 matched_steady image (Some index) = failing (in_types index)
 
--- what stands between the magic and the end
+-- what persists between the magic and the end
 abbrev pub all_parts : Reader Image
 all_parts bytes = u2_at bytes >>= λ version. cond (eqb version.0 1) (parts_at version.1 >>= match_rows) (Err (FormVersion version.0))
 
 pub all_steady : IsSteady all_parts
-all_steady = first u2_steady (λ version. either (eqb version 1) (first parts_steady (λ image. matched_steady image (unmatched_in image))) (failing (FormVersion version)))
+all_steady = first (number_steady 2) (λ version. either (eqb version 1) (first parts_steady (λ image. matched_steady image (unmatched_in image))) (failing (FormVersion version)))

@@ -1,19 +1,18 @@
 -- Readers: what a reader takes from the prefix is encoded there, it takes each encoding again, and what it
 -- refuses is too short or breaks a rule of a table. Numbers, bytes after their length, and lists.
-use Rattle.std.proofs.Common.{◌≡◌, ℕ, zero, suc, ◌+◌, ◌*◌, ◌/◌, ◌%◌, ◌^◌, ◌<◌, ◌≤◌, Bool, true, false, cond, leb, ltb, List, [], ◌∷◌, ◌++◌, length, get_or, take, drop, Result, Ok, Err, refl, sym, ap, subst, ◌∙◌, append_assoc, arith}
+use Rattle.std.proofs.Common.{◌≡◌, ℕ, zero, suc, ◌^◌, ◌<◌, ◌≤◌, Bool, true, false, cond, leb, List, [], ◌∷◌, ◌++◌, length, Result, Ok, Err, refl, sym, ap, subst, ◌∙◌, append_assoc, arith}
 use Rattle.std.specs.List.{flat_map}
-use Rattle.std.proofs.lemmas.Bool.{ltb-false, le-ltb, leb-true, le-leb}
-use Rattle.std.proofs.lemmas.List.{append-nil, take-append-drop, take_at, drop_at, length-append, length-take, get_or-drop}
+use Rattle.std.proofs.lemmas.Bool.{leb-true, le-leb}
+use Rattle.std.proofs.lemmas.List.{append-nil}
 use Rattle.image_instr.specs.Insn.{u2}
 use Rattle.image_form.specs.declared.refusal.FormRefusal.{FormRefusal}
 use Rattle.image_form.specs.declared.refusal.FormRefusal.TheVariants.{NotInfusion, FormVersion, Truncated, TrailingBytes, BadTable, Memory}
 use Rattle.image_form.specs.Format.{counted}
 use Rattle.image_form.specs.Grammar.{EachAfter}
-use Rattle.image_form.specs.Reading.{◌>>=◌, u1_at, u2_at, slice_at, tested, items_at}
-
--- each of the numbers is a byte
-abbrev pub IsBytes : List ℕ → Type 0
-IsBytes bytes = (i : ℕ) → get_or bytes i 0 < 256
+use Rattle.byte_read.specs.Reading.{◌>>=◌, steps_at}
+use Rattle.byte_read.proofs.Steps.{IsBytes, Takes, done, ok_is, then_ok, u1_takes, u1_fails, u1_again, u2_takes, u2_again, number_fails, slice_takes, slice_fails, slice_again}
+use Rattle.byte_read.proofs.Loop.{items_step}
+use Rattle.image_form.specs.Reading.{u1_at, u2_at, slice_at, tested, items_at}
 
 -- a reader of values with bytes after them
 abbrev pub Reader : Type 0 → Type 0
@@ -47,9 +46,6 @@ pub record Reads (A : Type 0) (Is : A → Type 0) (bytes_of : A → List ℕ) (r
 
 -- ---- one reader after another
 
-pub ok_then : {A B : Type 0} {r : Result A FormRefusal} {x : A} {y : Result B FormRefusal} (f : A → Result B FormRefusal) → r ≡ Ok x → f x ≡ y → (r >>= f) ≡ y
-ok_then f e h = rw e h
-
 -- what was read first, and what the rest made of it
 pub record Bound (A B : Type 0) (r : Result A FormRefusal) (f : A → Result B FormRefusal) (y : B) : Type 0 where
   pub first : A
@@ -64,11 +60,9 @@ pub refuses_then : {A B : Type 0} (r : Result A FormRefusal) (f : A → Result B
 refuses_then (Ok x) f h then = then x
 refuses_then (Err why) f h then = h
 
-abbrev answer : {A : Type 0} → A → Result A FormRefusal
-answer x = Ok x
-
-pub same_answer : {A : Type 0} (x y : A) → answer x ≡ answer y → x ≡ y
-same_answer x y e = cc
+refused_so : {B : Type 0} (r : Result B FormRefusal) → ((why : FormRefusal) → r ≡ Err why → why ≡ Truncated) → Refuses r
+refused_so (Ok x) missed = tt
+refused_so (Err why) missed = subst IsOfTables (sym (missed why refl)) tt
 
 -- ---- the same values and bytes in other words
 
@@ -84,9 +78,9 @@ Reads-as {read} r to from text = record {
 
 -- ---- records, field by field
 
-made_taken : {C : Type 0} (value : C) (bytes : List ℕ) (x : C × List ℕ) → IsBytes bytes → answer (value, bytes) ≡ Ok x → Taken C (λ c. c ≡ value) (λ c. []) bytes x
+made_taken : {C : Type 0} (value : C) (bytes : List ℕ) (x : C × List ℕ) → IsBytes bytes → done {E = FormRefusal} (value, bytes) ≡ Ok x → Taken C (λ c. c ≡ value) (λ c. []) bytes x
 made_taken {C} value bytes x fits e =
-    let same : (value, bytes) ≡ x = same_answer (value, bytes) x e in
+    let same : (value, bytes) ≡ x = ok_is (value, bytes) x e in
     record { is = ap (λ p. p.0) (sym same); parts = ap (λ p. p.1) same; rest_fits = subst (λ (p : C × List ℕ). IsBytes p.1) same fits }
 
 -- a value that needs no bytes more
@@ -111,7 +105,7 @@ module _ {A C : Type 0} {IsFirst : A → Type 0} {first_bytes : A → List ℕ} 
   field_again : (c : C) (rest : List ℕ) → IsWhole c → (read (whole_bytes c ++ rest) >>= go_on) ≡ Ok (c, rest)
   field_again c rest h =
       ap (λ (text : List ℕ). read text >>= go_on) (append_assoc (first_bytes (field_of c)) (rest_bytes c) rest)
-      ∙ ok_then go_on (reads.again (field_of c) (rest_bytes c ++ rest) h.0) ((reads_rest (field_of c)).again c rest h.1)
+      ∙ then_ok go_on _ (reads.again (field_of c) (rest_bytes c ++ rest) h.0) ((reads_rest (field_of c)).again c rest h.1)
 
   field_by : (bytes : List ℕ) (a : A) (back : List ℕ) (x : C × List ℕ) → IsFirst a → bytes ≡ first_bytes a ++ back → Taken C (IsRest a) rest_bytes back x → Taken C IsWhole whole_bytes bytes x
   field_by bytes a back x is parts t =
@@ -141,67 +135,34 @@ module _ {A C : Type 0} {IsFirst : A → Type 0} {first_bytes : A → List ℕ} 
 
 -- ---- numbers
 
--- two bytes are those of the number that they encode
-u2_back : (a b : ℕ) → a < 256 → b < 256 → u2 (a * 256 + b) ≡ a ∷ b ∷ []
-u2_back a b la lb =
-    let high : (a * 256 + b) / 256 % 256 ≡ a = omega arith in
-    let low : (a * 256 + b) % 256 ≡ b = omega arith in
-    rw (high, low) refl
-
-u2_number : (n : ℕ) → n < 2 ^ 16 → n / 256 % 256 * 256 + n % 256 ≡ n
-u2_number n lt = omega arith
-
-u1_taken : (bytes : List ℕ) (x : ℕ × List ℕ) → IsBytes bytes → u1_at bytes ≡ Ok x → Taken ℕ (λ n. n < 2 ^ 8) (λ n. n ∷ []) bytes x
-unfolding u1_at
-u1_taken [] x fits e = absurd cc
-u1_taken (byte ∷ rest) x fits e =
-    subst (Taken ℕ (λ n. n < 2 ^ 8) (λ n. n ∷ []) (byte ∷ rest)) (same_answer (byte, rest) x e) (record {
-      is = fits 0;
-      parts = refl;
-      rest_fits = λ i. fits (suc i);
-    })
-
-u1_refuses : (bytes : List ℕ) → Refuses (u1_at bytes)
-unfolding u1_at
-u1_refuses [] = tt
-u1_refuses (byte ∷ rest) = tt
-
-u1_again : (n : ℕ) (rest : List ℕ) → u1_at (n ∷ rest) ≡ Ok (n, rest)
-unfolding u1_at
-u1_again n rest = refl
+taken_so : {A : Type 0} {Is : A → Type 0} {bytes_of : A → List ℕ} {bytes : List ℕ} {x : A × List ℕ} → Takes bytes (bytes_of x.0) x.1 → Is x.0 → Taken A Is bytes_of bytes x
+taken_so takes is = record { is = is; parts = takes.parts; rest_fits = takes.rest_fits }
 
 pub u1_reads : Reads ℕ (λ n. n < 2 ^ 8) (λ n. n ∷ []) u1_at
-u1_reads = record { again = λ n rest h. u1_again n rest; taken = u1_taken; refuses = u1_refuses }
-
-u2_again : (n : ℕ) (rest : List ℕ) → n < 2 ^ 16 → u2_at (u2 n ++ rest) ≡ Ok (n, rest)
-unfolding u2_at
-u2_again n rest lt = ap (λ (m : ℕ). Ok (m, rest)) (u2_number n lt)
-
-u2_taken : (bytes : List ℕ) (x : ℕ × List ℕ) → IsBytes bytes → u2_at bytes ≡ Ok x → Taken ℕ (λ n. n < 2 ^ 16) u2 bytes x
-unfolding u2_at
-u2_taken [] x fits e = absurd cc
-u2_taken (a ∷ []) x fits e = absurd cc
-u2_taken (a ∷ b ∷ rest) x fits e =
-    subst (Taken ℕ (λ n. n < 2 ^ 16) u2 (a ∷ b ∷ rest)) (same_answer (a * 256 + b, rest) x e) (record {
-      is = omega (arith, fits 0, fits 1);
-      parts = ap (λ (text : List ℕ). text ++ rest) (sym (u2_back a b (fits 0) (fits 1)));
-      rest_fits = λ i. fits (suc (suc i));
-    })
-
-u2_refuses : (bytes : List ℕ) → Refuses (u2_at bytes)
-unfolding u2_at
-u2_refuses [] = tt
-u2_refuses (a ∷ []) = tt
-u2_refuses (a ∷ b ∷ rest) = tt
+u1_reads = record {
+  again = λ n rest h. u1_again Truncated n rest;
+  taken =
+      λ bytes x fits e.
+      let t = u1_takes Truncated bytes x fits e in
+      taken_so t.0 t.1;
+  refuses = λ bytes. refused_so (u1_at bytes) (λ why e. (u1_fails Truncated bytes why e).1);
+}
 
 pub u2_reads : Reads ℕ (λ n. n < 2 ^ 16) u2 u2_at
-u2_reads = record { again = u2_again; taken = u2_taken; refuses = u2_refuses }
+u2_reads = record {
+  again = u2_again Truncated;
+  taken =
+      λ bytes x fits e.
+      let t = u2_takes Truncated bytes x fits e in
+      taken_so t.0 t.1;
+  refuses = λ bytes. refused_so (u2_at bytes) (λ why e. (number_fails Truncated 2 bytes why e).1);
+}
 
 -- ---- tests
 
 -- what a test lets through is what was read and meets the test
 passes : {A : Type 0} (b : Bool) (why : FormRefusal) (x y : A) → cond b (Ok x) (Err why) ≡ Ok y → (x ≡ y) × (b ≡ true)
-passes true why x y e = (same_answer x y e, refl)
+passes true why x y e = (ok_is x y e, refl)
 passes false why x y e = absurd cc
 
 tested_taken_by : {A : Type 0} (test : A → Bool) (why : FormRefusal) (r : Result (A × List ℕ) FormRefusal) (x : A × List ℕ) → tested test why r ≡ Ok x → (r ≡ Ok x) × (test x.0 ≡ true)
@@ -247,35 +208,13 @@ most_reads most why lt h = Reads-as (u2_tested (λ count. leb count most) why h)
 
 -- ---- bytes after their length
 
-slice_passes : {A : Type 0} (b : Bool) (x y : A) → cond b (Err Truncated) (Ok x) ≡ Ok y → (b ≡ false) × (x ≡ y)
-slice_passes true x y e = absurd cc
-slice_passes false x y e = (refl, same_answer x y e)
-
-slice_again : (value rest : List ℕ) → slice_at (length value) (value ++ rest) ≡ Ok (value, rest)
-unfolding slice_at
-slice_again value rest =
-    let long : ltb (length (value ++ rest)) (length value) ≡ false = le-ltb _ _ (omega (arith, length-append value rest)) in
-    rw (long, take_at value rest (length value) refl, drop_at value rest (length value) refl) refl
-
 slice_taken : (size : ℕ) (bytes : List ℕ) (x : List ℕ × List ℕ) → IsBytes bytes → slice_at size bytes ≡ Ok x → Taken (List ℕ) (λ value. length value ≡ size) (λ value. value) bytes x
-unfolding slice_at
 slice_taken size bytes x fits e =
-    let g = slice_passes (ltb (length bytes) size) (take size bytes, drop size bytes) x e in
-    let long : size ≤ length bytes = ltb-false _ _ g.0 in
-    let len : length (take size bytes) ≡ size = omega (arith, length-take size bytes, long) in
-    subst (Taken (List ℕ) (λ value. length value ≡ size) (λ value. value) bytes) g.1 (record {
-      is = len;
-      parts = sym (take-append-drop size bytes);
-      rest_fits = λ i. rw get_or-drop (fits (size + i));
-    })
-
-slice_refuses_by : {A : Type 0} (b : Bool) (x : A) → Refuses (cond b (Err Truncated) (Ok x))
-slice_refuses_by true x = tt
-slice_refuses_by false x = tt
+    let t = slice_takes Truncated size bytes x fits e in
+    taken_so t.0 t.1
 
 slice_refuses : (size : ℕ) (bytes : List ℕ) → Refuses (slice_at size bytes)
-unfolding slice_at
-slice_refuses size bytes = slice_refuses_by (ltb (length bytes) size) (take size bytes, drop size bytes)
+slice_refuses size bytes = refused_so (slice_at size bytes) (λ why e. (slice_fails Truncated size bytes why e).1)
 
 -- the bytes with their length in prefix
 abbrev pub sized : List ℕ → List ℕ
@@ -286,7 +225,7 @@ slice_then size = slice_at size.0 size.1
 
 sized_again : {IsSize : ℕ → Type 0} {size_at : Reader ℕ} → Reads ℕ IsSize u2 size_at → (value rest : List ℕ) → IsSize (length value) → (size_at (sized value ++ rest) >>= slice_then) ≡ Ok (value, rest)
 sized_again {size_at} r value rest h =
-    ap (λ (text : List ℕ). size_at text >>= slice_then) (append_assoc (u2 (length value)) value rest) ∙ ok_then slice_then (r.again (length value) (value ++ rest) h) (slice_again value rest)
+    ap (λ (text : List ℕ). size_at text >>= slice_then) (append_assoc (u2 (length value)) value rest) ∙ then_ok slice_then _ (r.again (length value) (value ++ rest) h) (slice_again Truncated value rest (length value) refl)
 
 sized_taken : {IsSize : ℕ → Type 0} {size_at : Reader ℕ} → Reads ℕ IsSize u2 size_at → (bytes : List ℕ) (x : List ℕ × List ℕ) → IsBytes bytes → (size_at bytes >>= slice_then) ≡ Ok x → Taken (List ℕ) (λ value. IsSize (length value)) sized bytes x
 sized_taken {IsSize} {size_at} r bytes x fits e =
@@ -323,17 +262,18 @@ module _ {A : Type 0} {P : List A → A → Type 0} {item_bytes : A → List ℕ
   more room before item = items_at item_at room (before ++ item.0 ∷ []) item.1
 
   items_again : (xs before : List A) (rest : List ℕ) → EachAfter P before xs → items_at item_at (length xs) before (flat_map item_bytes xs ++ rest) ≡ Ok (before ++ xs, rest)
-  unfolding items_at
+  unfolding steps_at
   items_again [] before rest h = ap (λ (all : List A). Ok (all, rest)) (sym (append-nil before))
   items_again (x ∷ xs) before rest h =
-      ap (λ (text : List ℕ). item_at before text >>= more (length xs) before) (append_assoc (item_bytes x) (flat_map item_bytes xs) rest)
-      ∙ ok_then (more (length xs) before) ((reads before).again x (flat_map item_bytes xs ++ rest) h.0) (items_again xs (before ++ x ∷ []) rest h.1)
+      items_step item_at before (length xs) (flat_map item_bytes (x ∷ xs) ++ rest)
+      ∙ ap (λ (text : List ℕ). item_at before text >>= more (length xs) before) (append_assoc (item_bytes x) (flat_map item_bytes xs) rest)
+      ∙ then_ok (more (length xs) before) _ ((reads before).again x (flat_map item_bytes xs ++ rest) h.0) (items_again xs (before ++ x ∷ []) rest h.1)
       ∙ ap (λ (all : List A). Ok (all, rest)) (append_assoc before (x ∷ []) xs)
 
   items_taken : (room : ℕ) (before : List A) (bytes : List ℕ) (y : List A × List ℕ) → IsBytes bytes → items_at item_at room before bytes ≡ Ok y → TakenItems A P item_bytes room before bytes y
-  unfolding items_at
+  unfolding steps_at
   items_taken zero before bytes y fits e =
-      subst (TakenItems A P item_bytes zero before bytes) (same_answer (before, bytes) y e) (record {
+      subst (TakenItems A P item_bytes zero before bytes) (ok_is (before, bytes) y e) (record {
         items = [];
         all_are = sym (append-nil before);
         count_is = refl;
@@ -342,7 +282,7 @@ module _ {A : Type 0} {P : List A → A → Type 0} {item_bytes : A → List ℕ
         rest_fits = fits;
       })
   items_taken (suc room) before bytes y fits e =
-      let b = bound (item_at before bytes) (more room before) y e in
+      let b = bound (item_at before bytes) (more room before) y (sym (items_step item_at before room bytes) ∙ e) in
       let t = (reads before).taken bytes b.first fits b.first_is in
       let u = items_taken room (before ++ b.first.0 ∷ []) b.first.1 y t.rest_fits b.then_is in
       record {
@@ -355,10 +295,10 @@ module _ {A : Type 0} {P : List A → A → Type 0} {item_bytes : A → List ℕ
       }
 
   items_refuses : (room : ℕ) (before : List A) (bytes : List ℕ) → Refuses (items_at item_at room before bytes)
-  unfolding items_at
+  unfolding steps_at
   items_refuses zero before bytes = tt
   items_refuses (suc room) before bytes =
-      refuses_then (item_at before bytes) (more room before) ((reads before).refuses bytes) (λ item. items_refuses room (before ++ item.0 ∷ []) item.1)
+      subst Refuses (sym (items_step item_at before room bytes)) (refuses_then (item_at before bytes) (more room before) ((reads before).refuses bytes) (λ item. items_refuses room (before ++ item.0 ∷ []) item.1))
 
   abbrev items_then : ℕ × List ℕ → Result (List A × List ℕ) FormRefusal
   items_then count = items_at item_at count.0 [] count.1
@@ -367,7 +307,7 @@ module _ {A : Type 0} {P : List A → A → Type 0} {item_bytes : A → List ℕ
     counted_again : (xs : List A) (rest : List ℕ) → IsCount (length xs) × EachAfter P [] xs → (count_at (counted item_bytes xs ++ rest) >>= items_then) ≡ Ok (xs, rest)
     counted_again xs rest h =
         ap (λ (text : List ℕ). count_at text >>= items_then) (append_assoc (u2 (length xs)) (flat_map item_bytes xs) rest)
-        ∙ ok_then items_then (counts.again (length xs) (flat_map item_bytes xs ++ rest) h.0) (items_again xs [] rest h.1)
+        ∙ then_ok items_then _ (counts.again (length xs) (flat_map item_bytes xs ++ rest) h.0) (items_again xs [] rest h.1)
 
     counted_by : (bytes : List ℕ) (n : ℕ) (back : List ℕ) (y : List A × List ℕ) → IsCount n → bytes ≡ u2 n ++ back → TakenItems A P item_bytes n [] back y → Taken (List A) (λ xs. IsCount (length xs) × EachAfter P [] xs) (counted item_bytes) bytes y
     counted_by bytes n back y is parts t =

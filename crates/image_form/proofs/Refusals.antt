@@ -7,7 +7,7 @@ use Rattle.image_form.specs.declared.refusal.FormRefusal.TheVariants.{NotInfusio
 use Rattle.image_form.specs.Grammar.{IsEncoded}
 use Rattle.image_form.specs.Reading.{image_of}
 use Rattle.image_form.specs.Refused.{IsRefused, Gives}
-use Rattle.image_form.proofs.Readers.{IsBytes}
+use Rattle.byte_read.proofs.Steps.{IsBytes}
 use Rattle.image_form.proofs.Whole.{encoding_reads, read_is_encoding, refused_reads, read_is_refused}
 
 pub is_found : (bytes : List ℕ) (result : Result Image FormRefusal) → IsBytes bytes → Gives result (image_of bytes) → IfOk result (λ image. IsEncoded bytes image)

@@ -13,8 +13,10 @@ use Rattle.image_form.specs.declared.refusal.FormRefusal.{FormRefusal}
 use Rattle.image_form.specs.Format.{counted, row_bytes, class_bytes, type_bytes}
 use Rattle.image_form.specs.Library.{names_type, names_parent, names_interface, refs_of, nums_of}
 use Rattle.image_form.specs.Grammar.{Each, EachAfter, is_above, IsRow, IsInterface, IsClass, is_ref_array, is_num_array, is_kind, IsRefArray, IsNumArray, IsType, most_types}
-use Rattle.image_form.specs.Reading.{◌>>=◌, u1_at, u2_at, tested, in_types, interface_at, interfaces_at, row_at, rows_at, name_at, refs_at, nums_at, class_at, element_at, kind_at, tagged_at, type_at, types_at}
-use Rattle.image_form.proofs.Readers.{Reader, IsBytes, Refuses, Taken, Reads, Reads-as, ok_then, bound, refuses_then, same_answer, made, field_reads, u1_reads, u2_reads, u1_tested, u2_tested, sized, sized_reads, counted_reads, most_reads}
+use Rattle.byte_read.specs.Reading.{◌>>=◌}
+use Rattle.image_form.specs.Reading.{u1_at, u2_at, tested, in_types, interface_at, interfaces_at, row_at, rows_at, name_at, refs_at, nums_at, class_at, element_at, kind_at, tagged_at, type_at, types_at}
+use Rattle.byte_read.proofs.Steps.{IsBytes, then_ok, ok_is}
+use Rattle.image_form.proofs.Readers.{Reader, Refuses, Taken, Reads, Reads-as, bound, refuses_then, made, field_reads, u1_reads, u2_reads, u1_tested, u2_tested, sized, sized_reads, counted_reads, most_reads}
 
 -- ---- interfaces, rows and names
 
@@ -235,7 +237,7 @@ abbrev into : {A : Type 0} → (A → TypeEntry) → A × List ℕ → Result (T
 into make x = Ok (make x.0, x.1)
 
 entry_again : {A : Type 0} {Is : A → Type 0} {bytes_of : A → List ℕ} {read : Reader A} (make : A → TypeEntry) (x : A) (rest : List ℕ) → Reads A Is bytes_of read → Is x → (read (bytes_of x ++ rest) >>= into make) ≡ Ok (make x, rest)
-entry_again make x rest r h = ok_then (into make) (r.again x rest h) refl
+entry_again make x rest r h = then_ok (into make) _ (r.again x rest h) refl
 
 tagged_again : (types : List TypeEntry) (entry : TypeEntry) (rest : List ℕ) → IsType types entry → tagged_at types (tag_of entry) (untagged entry ++ rest) ≡ Ok (entry, rest)
 unfolding tagged_at
@@ -248,7 +250,7 @@ entry_taken : {A : Type 0} {Is : A → Type 0} {bytes_of : A → List ℕ} {read
 entry_taken {read} types tag make r is text bytes y fits e =
     let b = bound (read bytes) (into make) y e in
     let t = r.taken bytes b.first fits b.first_is in
-    subst (Taken TypeEntry (IsTagged types tag) untagged bytes) (same_answer (make b.first.0, b.first.1) y b.then_is) (record {
+    subst (Taken TypeEntry (IsTagged types tag) untagged bytes) (ok_is (make b.first.0, b.first.1) y b.then_is) (record {
       is = is b.first.0 t.is;
       parts = t.parts ∙ ap (λ (prefix : List ℕ). prefix ++ b.first.1) (text b.first.0);
       rest_fits = t.rest_fits;

@@ -10,9 +10,11 @@ use Rattle.image_form.specs.declared.refusal.FormRefusal.{FormRefusal}
 use Rattle.image_form.specs.declared.refusal.FormRefusal.TheVariants.{NotInfusion, FormVersion, Truncated, TrailingBytes, BadTable, Memory}
 use Rattle.image_form.specs.Format.{magic, encoding}
 use Rattle.image_form.specs.Grammar.{IsImage, IsEncoded, IsFollowed}
-use Rattle.image_form.specs.Reading.{◌>>=◌, u2_at, parts_at, whole_of, versioned, image_of}
+use Rattle.byte_read.specs.Reading.{◌>>=◌}
+use Rattle.image_form.specs.Reading.{u2_at, parts_at, whole_of, versioned, image_of}
 use Rattle.image_form.specs.Refused.{HasVersion, IsRefused}
-use Rattle.image_form.proofs.Readers.{IsBytes, IsOfTables, Refuses, ok_then, same_answer, u2_reads}
+use Rattle.byte_read.proofs.Steps.{IsBytes, then_ok, ok_is}
+use Rattle.image_form.proofs.Readers.{IsOfTables, Refuses, u2_reads}
 use Rattle.image_form.proofs.ImageParts.{part_bytes, match_rows, image_reads}
 
 -- ---- the end of the bytes
@@ -27,7 +29,7 @@ ends_followed : (image : Image) (rest : List ℕ) → rest ≢ [] → ends (imag
 ends_followed image rest some = ap (λ (b : Bool). cond b (Ok image) (Err TrailingBytes)) (some_left rest some)
 
 end_passes : (b : Bool) (x y : Image) → cond b (Ok x) (Err TrailingBytes) ≡ Ok y → (b ≡ true) × (x ≡ y)
-end_passes true x y e = (refl, same_answer x y e)
+end_passes true x y e = (refl, ok_is x y e)
 end_passes false x y e = absurd cc
 
 end_fails : (b : Bool) (x : Image) (why : FormRefusal) → cond b (Ok x) (Err TrailingBytes) ≡ Err why → (b ≡ false) × (TrailingBytes ≡ why)
@@ -45,11 +47,11 @@ unfolding whole_of
 whole_is bytes = in_turn (parts_at bytes) match_rows ends
 
 whole_again : (image : Image) (rest : List ℕ) → IsImage image → whole_of (part_bytes image ++ rest) ≡ ends (image, rest)
-whole_again image rest h = whole_is (part_bytes image ++ rest) ∙ ok_then ends (image_reads.again image rest h) refl
+whole_again image rest h = whole_is (part_bytes image ++ rest) ∙ then_ok ends _ (image_reads.again image rest h) refl
 
 version_again : (version : ℕ) (rest : List ℕ) → version < 2 ^ 16 → versioned (u2 version ++ rest) ≡ cond (eqb version 1) (whole_of rest) (Err (FormVersion version))
 unfolding versioned
-version_again version rest lt = ok_then (λ (x : ℕ × List ℕ). cond (eqb x.0 1) (whole_of x.1) (Err (FormVersion x.0))) (u2_reads.again version rest lt) refl
+version_again version rest lt = then_ok (λ (x : ℕ × List ℕ). cond (eqb x.0 1) (whole_of x.1) (Err (FormVersion x.0))) _ (u2_reads.again version rest lt) refl
 
 magic_again : (rest : List ℕ) → image_of (magic ++ rest) ≡ versioned rest
 unfolding image_of
@@ -225,7 +227,7 @@ memory_serves bytes fits e = read_is_refused bytes Memory fits e
 -- ---- encodings
 
 pub one_image : (bytes : List ℕ) (first second : Image) → IsEncoded bytes first → IsEncoded bytes second → first ≡ second
-one_image bytes first second s t = same_answer first second (sym (encoding_reads bytes first s) ∙ encoding_reads bytes second t)
+one_image bytes first second s t = ok_is first second (sym (encoding_reads bytes first s) ∙ encoding_reads bytes second t)
 
 no_prefix_by : (first second : Image) (suffix : List ℕ) → ends (first, suffix) ≡ Ok second → suffix ≡ []
 no_prefix_by first second suffix e = nil_from_length suffix (eqb-true _ _ (end_passes (eqb (length suffix) 0) first second e).0)

@@ -1,8 +1,9 @@
 -- Reading as a function on lists: a part is a value and the bytes after it, or a refusal. Each rule is
 -- tested when the last byte of the numbers that it speaks of was read.
-use Rattle.std.specs.Prelude.{ℕ, zero, suc, ◌+◌, ◌-◌, ◌*◌, Bool, true, false, ◌&&◌, ◌||◌, not, ◌==◌, nat_lt, nat_le, if◌then◌else◌, List, [], ◌∷◌, ◌++◌, length, take, drop, slice_get, Option, Some, None, Result, Ok, Err}
+use Rattle.std.specs.Prelude.{ℕ, suc, ◌+◌, ◌-◌, Bool, true, false, ◌&&◌, ◌||◌, not, ◌==◌, nat_lt, nat_le, if◌then◌else◌, List, [], ◌∷◌, length, take, drop, slice_get, Option, Some, None, Result, Ok, Err}
 use Rattle.std.specs.Str.{bytes_eq}
 use Rattle.std.specs.List.{list_any, list_all}
+use Rattle.byte_read.specs.Reading.{◌>>=◌, u1_at as byte_at, number_at, slice_at as bytes_at, steps_at, one_more}
 use Rattle.image_instr.specs.declared.signature.Sig.{Sig}
 use Rattle.image_form.specs.declared.record.Image.{Image}
 use Rattle.image_form.specs.declared.record.TypeEntry.{TypeEntry}
@@ -17,39 +18,27 @@ use Rattle.image_form.specs.Format.{magic}
 use Rattle.image_form.specs.Library.{signature, names_type, names_class, names_parent, names_interface, refs_of, nums_of, signature_in}
 use Rattle.image_form.specs.Grammar.{is_above, is_ref_array, is_num_array, is_kind, most_types, most_methods}
 
-infixl 10 ◌>>=◌
-abbrev pub ◌>>=◌ : {A B : Type 0} → Result A FormRefusal → (A → Result B FormRefusal) → Result B FormRefusal
-(Ok x) >>= f = f x
-(Err e) >>= f = Err e
-
 -- ---- bytes, numbers and lists
 
 -- a number of one byte
-unfoldable pub u1_at : List ℕ → Result (ℕ × List ℕ) FormRefusal
-u1_at [] = Err Truncated
-u1_at (byte ∷ rest) = Ok (byte, rest)
+abbrev pub u1_at : List ℕ → Result (ℕ × List ℕ) FormRefusal
+u1_at bytes = byte_at Truncated bytes
 
 -- a number of two bytes
-unfoldable pub u2_at : List ℕ → Result (ℕ × List ℕ) FormRefusal
-u2_at [] = Err Truncated
-u2_at (first ∷ []) = Err Truncated
-u2_at (first ∷ second ∷ rest) = Ok (first * 256 + second, rest)
+abbrev pub u2_at : List ℕ → Result (ℕ × List ℕ) FormRefusal
+u2_at bytes = number_at Truncated 2 bytes
 
 -- so many bytes
-unfoldable pub slice_at : ℕ → List ℕ → Result (List ℕ × List ℕ) FormRefusal
-slice_at size bytes = if nat_lt (length bytes) size then Err Truncated else Ok (take size bytes, drop size bytes)
+abbrev pub slice_at : ℕ → List ℕ → Result (List ℕ × List ℕ) FormRefusal
+slice_at size bytes = bytes_at Truncated size bytes
 
 -- a part whose value meets a test; else it is refused so
 abbrev pub tested : {A : Type 0} → (A → Bool) → FormRefusal → Result (A × List ℕ) FormRefusal → Result (A × List ℕ) FormRefusal
-tested test why (Ok part) = if test part.0 then Ok part else Err why
-tested test why (Err other) = Err other
+tested test why read = read >>= λ part. if test part.0 then Ok part else Err why
 
 -- so many items after those that were read, each read in the light of those before it
-unfoldable pub items_at : {A : Type 0} → (List A → List ℕ → Result (A × List ℕ) FormRefusal) → ℕ → List A → List ℕ → Result (List A × List ℕ) FormRefusal
-items_at item_at zero before bytes = Ok (before, bytes)
-items_at item_at (suc room) before bytes = do
-  item ← item_at before bytes
-  items_at item_at room (before ++ item.0 ∷ []) item.1
+abbrev pub items_at : {A : Type 0} → (List A → List ℕ → Result (A × List ℕ) FormRefusal) → ℕ → List A → List ℕ → Result (List A × List ℕ) FormRefusal
+items_at item_at room before bytes = steps_at (one_more item_at) before room bytes
 
 -- ---- the refusals of the tables
 
@@ -296,11 +285,21 @@ whole_of bytes = do
   image ← matched (first_unmatched part.0.selectors part.0.methods 0 part.0.types) part
   if length image.1 == 0 then Ok image.0 else Err TrailingBytes
 
+-- the version, which is 1
+unfoldable pub version_at : List ℕ → Result (ℕ × List ℕ) FormRefusal
+version_at bytes = do
+  version ← u2_at bytes
+  if version.0 == 1 then Ok version else Err (FormVersion version.0)
+
 -- the image with these bytes after the first four
 unfoldable pub versioned : List ℕ → Result Image FormRefusal
 versioned bytes = do
   version ← u2_at bytes
   if version.0 == 1 then whole_of version.1 else Err (FormVersion version.0)
+
+-- the magic and the version
+unfoldable pub start_of : List ℕ → Result (ℕ × List ℕ) FormRefusal
+start_of bytes = if bytes_eq (take 4 bytes) magic then version_at (drop 4 bytes) else Err NotInfusion
 
 -- the image, or the first rule that the bytes fail
 unfoldable pub image_of : List ℕ → Result Image FormRefusal

@@ -1,5 +1,5 @@
 -- Why bytes are refused, one cause at a time in their order, and what a reading function answers.
-use Rattle.std.specs.Prelude.{◌≡◌, ◌≢◌, ℕ, ◌^◌, ◌<◌, List, ◌++◌, take, Result, Ok, Err}
+use Rattle.std.specs.Prelude.{◌≡◌, ◌≢◌, ℕ, ◌^◌, ◌<◌, List, ◌++◌, length, take, Result, Ok, Err}
 use Rattle.image_instr.specs.Insn.{u2}
 use Rattle.image_form.specs.declared.refusal.FormRefusal.{FormRefusal}
 use Rattle.image_form.specs.declared.refusal.FormRefusal.TheVariants.{NotInfusion, FormVersion, Truncated, TrailingBytes, BadTable, Memory}
@@ -10,6 +10,15 @@ use Rattle.image_form.specs.Reading.{image_of}
 -- two bytes after the magic encode this version
 abbrev pub HasVersion : List ℕ → ℕ → Type 0
 HasVersion bytes version = (version < 2 ^ 16) × (take 6 bytes ≡ magic ++ u2 version)
+
+-- the magic or the version is refused so, before any memory is asked for
+abbrev pub IsStartRefused : List ℕ → FormRefusal → Type 0
+IsStartRefused bytes NotInfusion = take 4 bytes ≢ magic
+IsStartRefused bytes (FormVersion version) = HasVersion bytes version × (version ≢ 1)
+IsStartRefused bytes Truncated = (length bytes < 6) × (take 4 bytes ≡ magic)
+IsStartRefused bytes (BadTable table index) = ⊥
+IsStartRefused bytes TrailingBytes = ⊥
+IsStartRefused bytes Memory = ⊥
 
 -- the bytes are refused so; where they end too early, and which entry of which table breaks a rule, is
 -- the first of what reading meets

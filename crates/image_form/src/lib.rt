@@ -14,8 +14,6 @@ mod read;
 mod record;
 mod refusal;
 mod statics;
-#[cfg(test)]
-mod tests;
 mod types;
 mod write;
 

@@ -1,6 +1,6 @@
 //! The bytes and numbers that an infusion is made of.
 
-ghost use Rattle.std.specs.Prelude.{◌≡◌};
+ghost use Rattle.byte_read.specs.Reading.{Answers};
 ghost use Rattle.image_form.specs.Refused.{Shows};
 ghost use Rattle.image_form.specs.Reading.{u1_at, u2_at, slice_at, name_at};
 
@@ -9,30 +9,20 @@ use item_list::Items;
 use std::alloc::Global;
 
 /// A number of one byte, and the bytes after it.
-#[tactic(auto, unfolding(crate::specs::Reading::u1_at))]
 pub(crate) fn u1_at(bytes: &[u8]) -> Result<(u8, &[u8]), FormRefusal>
-    ensures { Shows (λ x. (x.0, x.1.now)) result (u1_at bytes.now) }
+    ensures { Answers (λ x. (x.0, x.1.now)) result (u1_at bytes.now) }
 {
-    match bytes {
-        [] => Err(FormRefusal::Truncated),
-        [byte, rest @ ..] => Ok((*byte, rest)),
-    }
+    byte_read::u1_at(FormRefusal::Truncated, bytes)
 }
 
 /// A number of two bytes, and the bytes after it.
-#[tactic(auto, unfolding(crate::specs::Reading::u2_at))]
 pub(crate) fn u2_at(bytes: &[u8]) -> Result<(u16, &[u8]), FormRefusal>
-    ensures { Shows (λ x. (x.0, x.1.now)) result (u2_at bytes.now) }
+    ensures { Answers (λ x. (x.0, x.1.now)) result (u2_at bytes.now) }
 {
-    match bytes {
-        [] => Err(FormRefusal::Truncated),
-        [_] => Err(FormRefusal::Truncated),
-        [first, second, rest @ ..] => Ok((u16::from_be_bytes([*first, *second]), rest)),
-    }
+    byte_read::u2_at(FormRefusal::Truncated, bytes)
 }
 
 /// So many bytes, and those after them.
-#[tactic(auto, unfolding(crate::specs::Reading::slice_at))]
 pub(crate) fn slice_at(
     alloc: Global,
     size: u16,
@@ -40,11 +30,7 @@ pub(crate) fn slice_at(
 ) -> Result<(Items<u8>, &[u8]), FormRefusal>
     ensures { Shows (λ x. (x.0, x.1.now)) result (slice_at size bytes.now) }
 {
-    let size = usize::from(size);
-    if bytes.len() < size {
-        return Err(FormRefusal::Truncated);
-    }
-    let (items, rest) = bytes.split_at(size);
+    let (items, rest) = byte_read::slice_at(FormRefusal::Truncated, usize::from(size), bytes)?;
     Ok((Items::from_vec(Vec::from_slice(alloc, items)?), rest))
 }
 

@@ -4,9 +4,10 @@ ghost use Rattle.std.specs.Prelude.{◌≡◌, ◌⊎◌, ◌≤◌, length, Ok,
 ghost use Rattle.image_form.specs.declared.record.Image.{Image as Record};
 ghost use Rattle.image_form.specs.declared.refusal.FormRefusal.{FormRefusal as Refusal};
 ghost use Rattle.image_form.specs.declared.refusal.FormRefusal.TheVariants.{Memory};
+ghost use Rattle.byte_read.specs.Reading.{Answers};
 ghost use Rattle.image_form.specs.Grammar.{most_types, IsEncoded};
-ghost use Rattle.image_form.specs.Refused.{IsRefused, Shows, Gives};
-ghost use Rattle.image_form.specs.Reading.{first_unmatched, parts_at, whole_of, versioned, image_of};
+ghost use Rattle.image_form.specs.Refused.{IsStartRefused, IsRefused, Shows, Gives};
+ghost use Rattle.image_form.specs.Reading.{first_unmatched, parts_at, whole_of, version_at, versioned, start_of, image_of};
 
 use crate::dispatch::first_unmatched;
 use crate::methods::{methods_at, selectors_at};
@@ -68,22 +69,33 @@ fn whole_of(alloc: Global, bytes: &[u8]) -> Result<Image, FormRefusal>
     Ok(image)
 }
 
-/// The image with these bytes after the first four.
-#[tactic(auto, unfolding(crate::specs::Reading::versioned))]
-fn versioned(alloc: Global, bytes: &[u8]) -> Result<Image, FormRefusal>
-    ensures { Gives result (versioned bytes.now) }
+/// The version, which is 1, and the bytes after it.
+#[tactic(auto, unfolding(crate::specs::Reading::version_at))]
+fn version_at(bytes: &[u8]) -> Result<(u16, &[u8]), FormRefusal>
+    ensures { Answers (λ x. (x.0, x.1.now)) result (version_at bytes.now) }
 {
     let (version, rest) = u2_at(bytes)?;
     if version != 1 {
         return Err(FormRefusal::FormVersion { version });
     }
+    Ok((version, rest))
+}
+
+/// The image with these bytes after the first four.
+#[tactic(auto, unfolding(crate::specs::Reading::versioned, crate::specs::Reading::version_at), using(crate::proofs::AtOnce::versioned_fails, crate::proofs::AtOnce::versioned_goes_on))]
+fn versioned(alloc: Global, bytes: &[u8]) -> Result<Image, FormRefusal>
+    ensures value { Gives result (versioned bytes.now) }
+    ensures version { (why : Refusal) → version_at bytes.now ≡ Err why → result ≡ Err why }
+{
+    let (_, rest) = version_at(bytes)?;
     whole_of(alloc, rest)
 }
 
 /// The image, or the first rule that the bytes fail.
-#[tactic(auto, unfolding(crate::specs::Reading::image_of))]
+#[tactic(auto, unfolding(crate::specs::Reading::image_of, crate::specs::Reading::start_of))]
 fn image_of(alloc: Global, bytes: &[u8]) -> Result<Image, FormRefusal>
-    ensures { Gives result (image_of bytes.now) }
+    ensures value { Gives result (image_of bytes.now) }
+    ensures start { (why : Refusal) → start_of bytes.now ≡ Err why → result ≡ Err why }
 {
     match bytes.strip_prefix(b"DJIN") {
         Some(rest) => versioned(alloc, rest),
@@ -103,6 +115,9 @@ pub fn read_image(alloc: Global, bytes: &[u8]) -> Result<Image, FormRefusal>
     // Other bytes are refused for the cause that they give, unless memory runs out.
     ensures refused { IfErr result (λ why. (why ≡ Memory) ⊎ IsRefused bytes.now why) }
     ensures refused_only { (why : Refusal) → IsRefused bytes.now why → Gives result (Err why) }
+
+    // What the magic and the version are refused for is the refusal at once.
+    ensures at_once { (why : Refusal) → IsStartRefused bytes.now why → result ≡ Err why }
 
     // Which image it is, or which refusal.
     ensures exact { Gives result (image_of bytes.now) }

@@ -9,6 +9,7 @@ ghost use Rattle.image_form.specs.Format.{magic, counted, row_bytes, class_bytes
 ghost use Rattle.image_form.specs.Grammar.{EachAfter, Each, IsClass, IsType, IsMethod, IsImage};
 
 use crate::record::{ClassEntry, DispatchRow, HandlerEntry, Image, Method, TypeEntry};
+use byte_read::u2_bytes;
 use image_instr::Sig;
 use std::alloc::{AllocError, Global};
 
@@ -19,7 +20,7 @@ pub type Memory = AllocError;
 fn append_u2(number: u16, out: &mut Vec<u8>) -> Result<(), Memory>
     ensures { OnOk result (out.new.items ≡ out.old.items ++ u2 number) }
 {
-    let [high, low] = number.to_be_bytes();
+    let [high, low] = u2_bytes(number);
     out.extend_from_slice(&[high, low])
 }
 
@@ -63,8 +64,8 @@ fn append_numbers(numbers: &[u16], out: &mut Vec<u8>) -> Result<(), Memory>
 fn append_row(row: DispatchRow, out: &mut Vec<u8>) -> Result<(), Memory>
     ensures { OnOk result (out.new.items ≡ out.old.items ++ row_bytes row) }
 {
-    let [a, b] = row.selector.to_be_bytes();
-    let [c, d] = row.method.to_be_bytes();
+    let [a, b] = u2_bytes(row.selector);
+    let [c, d] = u2_bytes(row.method);
     out.extend_from_slice(&[a, b, c, d])
 }
 
@@ -92,9 +93,9 @@ fn append_class(class: &ClassEntry, out: &mut Vec<u8>) -> Result<(), Memory>
     requires { (types : List Entry) × IsClass types class.now }
     ensures { OnOk result (out.new.items ≡ out.old.items ++ type_bytes (Class class.now)) }
 {
-    let [a, b] = class.parent.to_be_bytes();
-    let [c, d] = class.refs.to_be_bytes();
-    let [e, f] = class.nums.to_be_bytes();
+    let [a, b] = u2_bytes(class.parent);
+    let [c, d] = u2_bytes(class.refs);
+    let [e, f] = u2_bytes(class.nums);
     out.extend_from_slice(&[0, a, b, class.flags, c, d, e, f])?;
     append_numbers(class.interfaces.as_slice(), out)?;
     append_rows(class.rows.as_slice(), out)?;
@@ -105,7 +106,7 @@ fn append_class(class: &ClassEntry, out: &mut Vec<u8>) -> Result<(), Memory>
 fn append_ref_array(element: u16, out: &mut Vec<u8>) -> Result<(), Memory>
     ensures { OnOk result (out.new.items ≡ out.old.items ++ type_bytes (RefArray element)) }
 {
-    let [high, low] = element.to_be_bytes();
+    let [high, low] = u2_bytes(element);
     out.extend_from_slice(&[1, high, low])
 }
 
@@ -146,7 +147,7 @@ fn append_types(types: &[TypeEntry], out: &mut Vec<u8>) -> Result<(), Memory>
 fn append_signature(sig: Sig, out: &mut Vec<u8>) -> Result<(), Memory>
     ensures { OnOk result (out.new.items ≡ out.old.items ++ sig_bytes sig) }
 {
-    let [high, low] = sig.cells.to_be_bytes();
+    let [high, low] = u2_bytes(sig.cells);
     out.extend_from_slice(&[sig.refs, high, low, sig.result])
 }
 
@@ -173,10 +174,10 @@ fn append_selectors(selectors: &[Sig], out: &mut Vec<u8>) -> Result<(), Memory>
 fn append_handler(handler: HandlerEntry, out: &mut Vec<u8>) -> Result<(), Memory>
     ensures { OnOk result (out.new.items ≡ out.old.items ++ handler_bytes handler) }
 {
-    let [a, b] = handler.start.to_be_bytes();
-    let [c, d] = handler.end.to_be_bytes();
-    let [e, f] = handler.target.to_be_bytes();
-    let [g, h] = handler.class.to_be_bytes();
+    let [a, b] = u2_bytes(handler.start);
+    let [c, d] = u2_bytes(handler.end);
+    let [e, f] = u2_bytes(handler.target);
+    let [g, h] = u2_bytes(handler.class);
     out.extend_from_slice(&[a, b, c, d, e, f, g, h])
 }
 
@@ -203,9 +204,9 @@ fn append_handlers(handlers: &[HandlerEntry], out: &mut Vec<u8>) -> Result<(), M
 fn append_frame(method: &Method, out: &mut Vec<u8>) -> Result<(), Memory>
     ensures { OnOk result (out.new.items ≡ out.old.items ++ (u2 method.now.ref_locals ++ (u2 method.now.cell_locals ++ u2 method.now.body))) }
 {
-    let [a, b] = method.ref_locals.to_be_bytes();
-    let [c, d] = method.cell_locals.to_be_bytes();
-    let [e, f] = method.body.to_be_bytes();
+    let [a, b] = u2_bytes(method.ref_locals);
+    let [c, d] = u2_bytes(method.cell_locals);
+    let [e, f] = u2_bytes(method.body);
     out.extend_from_slice(&[a, b, c, d, e, f])
 }
 
@@ -245,7 +246,7 @@ fn append_methods(methods: &[Method], out: &mut Vec<u8>) -> Result<(), Memory>
 fn append_header(version: u16, out: &mut Vec<u8>) -> Result<(), Memory>
     ensures { OnOk result (out.new.items ≡ out.old.items ++ (magic ++ u2 version)) }
 {
-    let [high, low] = version.to_be_bytes();
+    let [high, low] = u2_bytes(version);
     out.extend_from_slice(&[0x44, 0x4a, 0x49, 0x4e, high, low])
 }
 

@@ -10,3 +10,4 @@ pub mod Targets
 pub mod SwitchPrefix
 pub mod EncodingIsInjective
 pub mod Written
+pub mod Search

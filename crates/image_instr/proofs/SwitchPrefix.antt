@@ -12,19 +12,20 @@ use Rattle.image_instr.specs.declared.insn.Width.TheVariants as width
 use Rattle.image_instr.specs.declared.insn.SwitchRow.{SwitchRow}
 use Rattle.image_instr.specs.declared.insn.MInsn.{MInsn}
 use Rattle.image_instr.specs.declared.insn.MInsn.TheVariants.{Switch, Table, Const1, Const2, Small1, Small2, Mid2, Null, Load, Store, RClear, Inc, RDupX, DupX, RPop, Pop, RSwap, Swap, Drop, Bin, Neg, Sx, Zx, Sb, Bit, Jz, JCmp, RJ, Goto, Ret, GetS, PutS, GetF, PutF, NewArr, Multi, ALen, ALoad, AStore, New, Cast, Inst, Throw, CallS, CallX, CallV, CallI}
-use Rattle.image_instr.specs.Insn.{u2, i4, row_bytes, target_bytes, insn_bytes, IsInsn, IsAtPrefix, KeysFollow}
-use Rattle.image_instr.specs.Reading.{Found, key_in, rows_in, targets_in, insn_at}
+use Rattle.image_instr.specs.Insn.{u2, i4, row_bytes, target_bytes, insn_bytes, IsInsn, IsAtPrefix, KeysRise, KeysFollow}
+use Rattle.image_instr.specs.Reading.{Found, key_in, keys_rise, rows_in, targets_in, insn_at}
 use Rattle.image_instr.specs.Switch.{is_switch, default_of, target_in}
 use Rattle.image_instr.proofs.Bytes.{IsBytes}
 use Rattle.image_instr.proofs.Forms.{Sound}
 use Rattle.image_instr.proofs.Groups.{insn_at-sound}
 use Rattle.image_instr.proofs.Decode.{prefix_found, prefix_parts}
-use Rattle.image_instr.proofs.Rows.{rows_again, targets_again, size_of_rows, size_of_targets}
+use Rattle.image_instr.proofs.Rows.{rows_again, keys_again, targets_again, size_of_rows, size_of_targets}
 
 -- the operands of a switch with rows, and of a table
 pub record IsRowsPrefix (bytes : List ℕ) : Type 0 where
   pub there : 4 ≤ length (drop 1 bytes)
   pub rows : 6 * big_number 2 (drop 3 bytes) ≤ length (drop 5 bytes)
+  pub rise : keys_rise (big_number 2 (drop 3 bytes)) None (drop 5 bytes) ≡ true
 
 pub record IsTablePrefix (bytes : List ℕ) : Type 0 where
   pub there : 8 ≤ length (drop 1 bytes)
@@ -43,14 +44,18 @@ pub record IsSwitchPrefix (insn : MInsn) (rows : List SwitchRow) (bytes : List �
   pub high_byte : 0x77 ≤ get_or bytes 0 0 → IsTablePrefix bytes × ((key : ℤ) → table_target_of bytes key ≡ target_in (default_of insn) rows key)
   pub from : 0x75 ≤ get_or bytes 0 0
 
-rows_part : (opcode default count : ℕ) (rows : List SwitchRow) (rest : List ℕ) (insn : MInsn) → default < 2 ^ 16 → count < 2 ^ 16 → length rows ≡ count → IsInsn insn rows → default_of insn ≡ default → IsRowsPrefix ((opcode ∷ (u2 default ++ (u2 count ++ flat_map row_bytes rows))) ++ rest) × ((key : ℤ) → rows_target_of ((opcode ∷ (u2 default ++ (u2 count ++ flat_map row_bytes rows))) ++ rest) key ≡ target_in (default_of insn) rows key)
-rows_part opcode default count rows rest insn d n len h is =
+rows_part : (opcode default count : ℕ) (rows : List SwitchRow) (rest : List ℕ) (insn : MInsn) → default < 2 ^ 16 → count < 2 ^ 16 → length rows ≡ count → KeysRise None rows → IsInsn insn rows → default_of insn ≡ default → IsRowsPrefix ((opcode ∷ (u2 default ++ (u2 count ++ flat_map row_bytes rows))) ++ rest) × ((key : ℤ) → rows_target_of ((opcode ∷ (u2 default ++ (u2 count ++ flat_map row_bytes rows))) ++ rest) key ≡ target_in (default_of insn) rows key)
+rows_part opcode default count rows rest insn d n len rising h is =
     let suffix = flat_map row_bytes rows ++ rest in
     let first : big_number 2 (u2 default ++ (u2 count ++ suffix)) ≡ default = big_number-reads_back 2 default (u2 count ++ suffix) d in
     let second : big_number 2 (u2 count ++ suffix) ≡ count = big_number-reads_back 2 count suffix n in
     let long : 6 * count ≤ length suffix = omega (arith, size_of_rows rows, len, length-append (flat_map row_bytes rows) rest) in
     let same : rows_in count suffix ≡ rows = subst (λ (n : ℕ). rows_in n suffix ≡ rows) len (rows_again rows rest h.row_ranges) in (
-      record { there = omega arith; rows = subst (λ (n : ℕ). 6 * n ≤ length suffix) (sym second) long },
+      record {
+        there = omega arith;
+        rows = subst (λ (n : ℕ). 6 * n ≤ length suffix) (sym second) long;
+        rise = subst (λ (n : ℕ). keys_rise n None suffix ≡ true) (len ∙ sym second) (keys_again rows None rest rising h.row_ranges);
+      },
       λ key. ap (λ (n : ℕ). target_in n (rows_in (big_number 2 (u2 count ++ suffix)) suffix) key) (first ∙ sym is)
           ∙ ap (λ (n : ℕ). target_in (default_of insn) (rows_in n suffix) key) second
           ∙ ap (λ (r : List SwitchRow). target_in (default_of insn) r key) same,
@@ -75,10 +80,10 @@ table_part opcode default low count rows rest insn d l n len follow h is =
 -- the bytes of a switch or a table
 switch_prefix : (insn : MInsn) (rows : List SwitchRow) (rest : List ℕ) → IsInsn insn rows → is_switch insn ≡ true → IsSwitchPrefix insn rows (insn_bytes insn rows ++ rest)
 switch_prefix (Switch width.One default count) rows rest h e =
-    let part = rows_part 0x75 default count rows rest (Switch width.One default count) h.ranges.0 h.ranges.1 h.rows_of.0 h refl in
+    let part = rows_part 0x75 default count rows rest (Switch width.One default count) h.ranges.0 h.ranges.1 h.rows_of.0 h.rows_of.1 h refl in
     record { present = omega arith; low_byte = λ _. part; high_byte = λ over. absurd (omega arith); from = omega arith }
 switch_prefix (Switch width.Two default count) rows rest h e =
-    let part = rows_part 0x76 default count rows rest (Switch width.Two default count) h.ranges.0 h.ranges.1 h.rows_of.0 h refl in
+    let part = rows_part 0x76 default count rows rest (Switch width.Two default count) h.ranges.0 h.ranges.1 h.rows_of.0 h.rows_of.1 h refl in
     record { present = omega arith; low_byte = λ _. part; high_byte = λ over. absurd (omega arith); from = omega arith }
 switch_prefix (Table width.One default low count) rows rest h e =
     let part = table_part 0x77 default low count rows rest (Table width.One default low count) h.ranges.0 h.ranges.1 h.ranges.2 h.rows_of.0 h.rows_of.1 h refl in

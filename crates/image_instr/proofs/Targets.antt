@@ -1,39 +1,16 @@
--- The search for a key among the rows in the code.
-use Rattle.std.proofs.Common.{◌≡◌, ◌≢◌, ℕ, ℤ, pos, zero, suc, ◌+◌, ◌+ℤ◌, ◌-◌, ◌*◌, ◌<◌, ◌≤◌, Bool, true, false, cond, List, drop, refl, sym, ap, ◌∙◌, arith}
+-- The search for a key among the targets in the code.
+use Rattle.std.proofs.Common.{◌≡◌, ◌≢◌, ℕ, ℤ, pos, zero, suc, ◌+ℤ◌, ◌*◌, ◌<◌, Bool, true, false, cond, List, drop, refl, sym, ap, ◌∙◌, arith}
 use Rattle.std.specs.Ordering.{int_eq}
 use Rattle.std.proofs.lemmas.Int.{ints}
 use Rattle.std.proofs.lemmas.List.{drop-drop}
 use Rattle.std.proofs.lemmas.Bool.Decides.{Decides-int_eq}
 use Rattle.byteorder.specs.Endian.{big_number}
-use Rattle.image_instr.specs.Reading.{key_in, rows_in, targets_in}
+use Rattle.image_instr.specs.Reading.{targets_in}
 use Rattle.image_instr.specs.Switch.{target_in}
 
-not_true : (test : Bool) → (test ≡ true → ⊥) → test ≡ false
+pub not_true : (test : Bool) → (test ≡ true → ⊥) → test ≡ false
 not_true true h = absurd (h refl)
 not_true false h = refl
-
--- ---- rows
-
--- with rows left, the first one and those after it give the target
-rows-more : (default count counter : ℕ) (rest : List ℕ) (key : ℤ) → counter < count → target_in default (rows_in (count - counter) rest) key ≡ cond (int_eq (key_in rest) key) (big_number 2 (drop 4 rest)) (target_in default (rows_in (count - (counter + 1)) (drop 6 rest)) key)
-unfolding rows_in
-rows-more default count counter rest key more =
-    let e : count - counter ≡ suc (count - (counter + 1)) = omega arith in
-    ap (λ (n : ℕ). target_in default (rows_in n rest) key) e
-
-pub rows-here : (default count counter : ℕ) (rest : List ℕ) (key : ℤ) → counter < count → int_eq (key_in rest) key ≡ true → target_in default (rows_in (count - counter) rest) key ≡ big_number 2 (drop 4 rest)
-rows-here default count counter rest key more here =
-    rows-more default count counter rest key more ∙ ap (λ (b : Bool). cond b (big_number 2 (drop 4 rest)) (target_in default (rows_in (count - (counter + 1)) (drop 6 rest)) key)) here
-
-pub rows-after : (default count counter : ℕ) (rest : List ℕ) (key : ℤ) → counter < count → int_eq (key_in rest) key ≡ false → target_in default (rows_in (count - counter) rest) key ≡ target_in default (rows_in (count - (counter + 1)) (drop 6 rest)) key
-rows-after default count counter rest key more other =
-    rows-more default count counter rest key more ∙ ap (λ (b : Bool). cond b (big_number 2 (drop 4 rest)) (target_in default (rows_in (count - (counter + 1)) (drop 6 rest)) key)) other
-
-pub rows-none : (default count counter : ℕ) (rest : List ℕ) (key : ℤ) → count ≤ counter → target_in default (rows_in (count - counter) rest) key ≡ default
-unfolding rows_in
-rows-none default count counter rest key none =
-    let e : count - counter ≡ 0 = omega arith in
-    ap (λ (n : ℕ). target_in default (rows_in n rest) key) e
 
 -- ---- targets
 

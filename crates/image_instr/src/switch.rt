@@ -1,8 +1,7 @@
 //! Switches and tables: their rows are read in the code, and searched there.
 
-ghost use Rattle.std.specs.Prelude.{◌≡◌, ℕ, ◌+◌, ◌+ℤ◌, ◌*◌, ◌^◌, ◌<◌, ◌≤◌, ◌≢◌, List, pos, length, drop, IfSome, IfNone};
+ghost use Rattle.std.specs.Prelude.{◌≡◌, ℕ, ◌+◌, ◌+ℤ◌, ◌*◌, ◌^◌, ◌<◌, ◌≤◌, ◌≢◌, List, pos, length, drop, true, Some, None, IfSome, IfNone, IsSome};
 ghost use Rattle.std.specs.Int.Signed.{le_z};
-ghost use Rattle.std.specs.Ordering.{int_eq};
 ghost use Rattle.byteorder.specs.Endian.{big_number};
 ghost use Rattle.image_instr.specs.declared.insn.SwitchRow.{SwitchRow};
 ghost use Rattle.image_instr.specs.declared.insn.MInsn.{MInsn};
@@ -65,6 +64,7 @@ fn keys_rise(count: u16, rows: &[u8]) -> bool
 }
 
 /// SWITCH: the default target, the count, and rows whose keys rise.
+#[inline(always)]
 pub(crate) fn switch(width: Width, operands: &[u8]) -> Option<(MInsn, usize)>
     ensures { result ≡ switch_in width operands.now }
 {
@@ -83,7 +83,24 @@ pub(crate) fn switch(width: Width, operands: &[u8]) -> Option<(MInsn, usize)>
     Some((insn, 5 + size))
 }
 
+/// SWITCH where one is known to be: its keys are not tested again.
+#[inline(always)]
+pub(crate) fn known_switch(width: Width, operands: &[u8]) -> (MInsn, usize)
+    requires { IsSome (switch_in width operands.now) }
+    ensures { switch_in width operands.now ≡ Some result }
+{
+    let default = BigEndian::read_u16(operands);
+    let count = BigEndian::read_u16(&operands[2..]);
+    let insn = MInsn::Switch {
+        width,
+        default,
+        count,
+    };
+    (insn, 5 + ROW * usize::from(count))
+}
+
 /// Whether a key is in range after so many keys from the low one on.
+#[inline(always)]
 fn last_fits(low: i32, count: u16) -> bool
     ensures { result ≡ le_z (low +ℤ pos count) (pos (2 ^ 31)) }
 {
@@ -91,6 +108,7 @@ fn last_fits(low: i32, count: u16) -> bool
 }
 
 /// TABLE: the default target, the low key, the count, which is at least 1, and targets.
+#[inline(always)]
 pub(crate) fn table(width: Width, operands: &[u8]) -> Option<(MInsn, usize)>
     ensures { result ≡ table_in width operands.now }
 {
@@ -110,12 +128,12 @@ pub(crate) fn table(width: Width, operands: &[u8]) -> Option<(MInsn, usize)>
     Some((insn, 9 + size))
 }
 
-/// Whether the row at the prefix has the key.
-fn has_key(row: &[u8], wanted: i32) -> bool
-    requires { 4 ≤ length row.now }
-    ensures { result ≡ int_eq (key_in row.now) wanted }
+/// The rows from an index on.
+fn rows_from(rows: &[u8], index: usize) -> &[u8]
+    requires { 6 * index ≤ length rows.now }
+    ensures { result.now ≡ drop (6 * index) rows.now }
 {
-    key(row) == wanted
+    &rows[ROW * index..]
 }
 
 /// The target of the row at the prefix.
@@ -126,17 +144,26 @@ fn target(row: &[u8]) -> u16
     BigEndian::read_u16(&row[4..])
 }
 
-/// The target of the row with the key among so many rows, or else the default.
+/// The target of the row with the key among so many rows whose keys rise, or else the default.
 fn row_target(default: u16, count: u16, rows: &[u8], wanted: i32) -> u16
-    requires { 6 * count ≤ length rows.now }
+    requires there { 6 * count ≤ length rows.now }
+    requires rise { keys_rise_in count None rows.now ≡ true }
     ensures { result ≡ target_in default (rows_in count rows.now) wanted }
 {
-    let mut rest = rows;
-    for _ in 0..count {
-        if has_key(rest, wanted) {
-            return target(rest);
+    let mut low = 0;
+    let mut high = usize::from(count);
+    while low < high {
+        let middle = low + (high - low) / 2;
+        let row = rows_from(rows, middle);
+        let key = key(row);
+        if key == wanted {
+            return target(row);
         }
-        rest = suffix(rest);
+        if key < wanted {
+            low = middle + 1;
+        } else {
+            high = middle;
+        }
     }
     default
 }
@@ -176,6 +203,7 @@ fn table_target(default: u16, low: i32, count: u16, targets: &[u8], wanted: i32)
 fn switch_operands_target(operands: &[u8], wanted: i32) -> u16
     requires there { 4 ≤ length operands.now }
     requires rows { 6 * big_number 2 (drop 2 operands.now) ≤ length (drop 4 operands.now) }
+    requires rise { keys_rise_in (big_number 2 (drop 2 operands.now)) None (drop 4 operands.now) ≡ true }
     ensures { result ≡ rows_target operands.now wanted }
 {
     let default = BigEndian::read_u16(operands);

@@ -6,6 +6,7 @@ ghost use Rattle.image_instr.specs.Insn.{u2, i1, i2, i4, index as index_bytes, h
 
 use crate::code::*;
 use crate::insn::{MInsn, SwitchRow};
+use byteorder::{BigEndian, ByteOrder};
 use std::alloc::AllocError;
 
 /// Want of memory.
@@ -29,16 +30,18 @@ fn short(opcode: u8, operand: u16, out: &mut Vec<u8>) -> Result<(), Memory>
     ensures ok { OnOk result (out.new.items ≡ out.old.items ++ (opcode ∷ u2 operand)) }
     ensures err { OnErr result (out.new.items ≡ out.old.items) }
 {
-    let [high, low] = operand.to_be_bytes();
-    out.extend_from_slice(&[opcode, high, low])
+    let mut bytes = [opcode; 3];
+    BigEndian::write_u16(&mut bytes[1..], operand);
+    out.extend_from_slice(&bytes)
 }
 
 fn int(opcode: u8, operand: i32, out: &mut Vec<u8>) -> Result<(), Memory>
     ensures ok { OnOk result (out.new.items ≡ out.old.items ++ (opcode ∷ i4 operand)) }
     ensures err { OnErr result (out.new.items ≡ out.old.items) }
 {
-    let [a, b, c, d] = operand.cast_unsigned().to_be_bytes();
-    out.extend_from_slice(&[opcode, a, b, c, d])
+    let mut bytes = [opcode; 5];
+    BigEndian::write_u32(&mut bytes[1..], operand.cast_unsigned());
+    out.extend_from_slice(&bytes)
 }
 
 fn index(opcode: u8, operand: u16, out: &mut Vec<u8>) -> Result<(), Memory>
@@ -48,20 +51,24 @@ fn index(opcode: u8, operand: u16, out: &mut Vec<u8>) -> Result<(), Memory>
     if operand < 255 {
         return out.extend_from_slice(&[opcode, operand as u8]);
     }
-    let [high, low] = operand.to_be_bytes();
-    out.extend_from_slice(&[opcode, 255, high, low])
+    let mut bytes = [opcode, 255, 0, 0];
+    BigEndian::write_u16(&mut bytes[2..], operand);
+    out.extend_from_slice(&bytes)
 }
 
 fn index_short(opcode: u8, operand: u16, amount: i16, out: &mut Vec<u8>) -> Result<(), Memory>
     ensures ok { OnOk result (out.new.items ≡ out.old.items ++ (opcode ∷ (index_bytes operand ++ i2 amount))) }
     ensures err { OnErr result (out.new.items ≡ out.old.items) }
 {
-    let [up, down] = amount.cast_unsigned().to_be_bytes();
     if operand < 255 {
-        return out.extend_from_slice(&[opcode, operand as u8, up, down]);
+        let mut bytes = [opcode, operand as u8, 0, 0];
+        BigEndian::write_u16(&mut bytes[2..], amount.cast_unsigned());
+        return out.extend_from_slice(&bytes);
     }
-    let [high, low] = operand.to_be_bytes();
-    out.extend_from_slice(&[opcode, 255, high, low, up, down])
+    let mut bytes = [opcode, 255, 0, 0, 0, 0];
+    BigEndian::write_u16(&mut bytes[2..], operand);
+    BigEndian::write_u16(&mut bytes[4..], amount.cast_unsigned());
+    out.extend_from_slice(&bytes)
 }
 
 fn halves(opcode: u8, m: u8, n: u8, out: &mut Vec<u8>) -> Result<(), Memory>
@@ -76,17 +83,19 @@ fn short_byte(opcode: u8, operand: u16, count: u8, out: &mut Vec<u8>) -> Result<
     ensures ok { OnOk result (out.new.items ≡ out.old.items ++ (opcode ∷ (u2 operand ++ count ∷ []))) }
     ensures err { OnErr result (out.new.items ≡ out.old.items) }
 {
-    let [high, low] = operand.to_be_bytes();
-    out.extend_from_slice(&[opcode, high, low, count])
+    let mut bytes = [opcode, 0, 0, count];
+    BigEndian::write_u16(&mut bytes[1..], operand);
+    out.extend_from_slice(&bytes)
 }
 
 fn two_shorts(opcode: u8, first: u16, second: u16, out: &mut Vec<u8>) -> Result<(), Memory>
     ensures ok { OnOk result (out.new.items ≡ out.old.items ++ (opcode ∷ (u2 first ++ u2 second))) }
     ensures err { OnErr result (out.new.items ≡ out.old.items) }
 {
-    let [a, b] = first.to_be_bytes();
-    let [c, d] = second.to_be_bytes();
-    out.extend_from_slice(&[opcode, a, b, c, d])
+    let mut bytes = [opcode; 5];
+    BigEndian::write_u16(&mut bytes[1..], first);
+    BigEndian::write_u16(&mut bytes[3..], second);
+    out.extend_from_slice(&bytes)
 }
 
 fn table_head(
@@ -99,10 +108,11 @@ fn table_head(
     ensures ok { OnOk result (out.new.items ≡ out.old.items ++ (opcode ∷ (u2 default ++ (i4 low ++ u2 count)))) }
     ensures err { OnErr result (out.new.items ≡ out.old.items) }
 {
-    let [a, b] = default.to_be_bytes();
-    let [c, d, e, f] = low.cast_unsigned().to_be_bytes();
-    let [g, h] = count.to_be_bytes();
-    out.extend_from_slice(&[opcode, a, b, c, d, e, f, g, h])
+    let mut bytes = [opcode; 9];
+    BigEndian::write_u16(&mut bytes[1..], default);
+    BigEndian::write_u32(&mut bytes[3..], low.cast_unsigned());
+    BigEndian::write_u16(&mut bytes[7..], count);
+    out.extend_from_slice(&bytes)
 }
 
 /// Appends a row: its key and its target.
@@ -111,9 +121,10 @@ fn row(row: SwitchRow, out: &mut Vec<u8>) -> Result<(), Memory>
     ensures ranges { HasRowRanges row }
     ensures err { OnErr result (out.new.items ≡ out.old.items) }
 {
-    let [a, b, c, d] = row.key.cast_unsigned().to_be_bytes();
-    let [high, low] = row.target.to_be_bytes();
-    out.extend_from_slice(&[a, b, c, d, high, low])
+    let mut bytes = [0; 6];
+    BigEndian::write_u32(&mut bytes, row.key.cast_unsigned());
+    BigEndian::write_u16(&mut bytes[4..], row.target);
+    out.extend_from_slice(&bytes)
 }
 
 /// Appends the target of a row.
@@ -122,7 +133,9 @@ fn target(row: SwitchRow, out: &mut Vec<u8>) -> Result<(), Memory>
     ensures ranges { HasRowRanges row }
     ensures err { OnErr result (out.new.items ≡ out.old.items) }
 {
-    out.extend_from_slice(&row.target.to_be_bytes())
+    let mut bytes = [0; 2];
+    BigEndian::write_u16(&mut bytes, row.target);
+    out.extend_from_slice(&bytes)
 }
 
 /// Appends rows; a refusal may leave some of them.

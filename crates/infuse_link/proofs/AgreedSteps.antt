@@ -1,5 +1,6 @@
 -- One step of each machine from a point, and what it takes that they agree.
 use Rattle.std.proofs.Common.{◌≡◌, ℕ, ◌+◌, List, [], ◌++◌, length, drop, refl, sym, ap, ◌∙◌}
+use Rattle.dialogue.specs.Answers.{Answers}
 use Rattle.dialogue.specs.Limits.{Limits}
 use Rattle.dialogue.specs.Run.{Step, Goes, Ends, Stuck, after_step}
 use Rattle.dialogue.specs.Simulation.{Matches}
@@ -31,10 +32,10 @@ found_step limits state frame others bytes suffix insn rows is bytes_are =
     ∙ ap (step_insn limits state frame others (frame.pc + length (insn_bytes insn rows)) insn) (sym (rows_are insn rows suffix is))
 
 -- the step at an offset of main's code at which an instruction stands
-pub split_step : (file : ClassFile) (code : CodeAttr) (body : Body) (limits : Limits) (offset : ℕ) (cells operands input : List ℕ) (ticks : ℕ) (suffix : List ℕ) (insn : MInsn) (rows : List SwitchRow) → IsInsn insn rows → drop offset (code_for body) ≡ insn_bytes insn rows ++ suffix
-    → (machine (image_of file code body) limits).step (state_at offset cells operands input ticks) ≡ step_insn limits (state_at offset cells operands input ticks) (frame_at offset cells operands) [] (offset + length (insn_bytes insn rows)) insn rows
-split_step file code body limits offset cells operands input ticks suffix insn rows is bytes_are =
-    found_step limits (state_at offset cells operands input ticks) (frame_at offset cells operands) [] (drop offset (code_for body)) suffix insn rows is bytes_are
+pub split_step : (file : ClassFile) (code : CodeAttr) (body : Body) (limits : Limits) (offset : ℕ) (cells operands : List ℕ) (answers : Answers) (ticks : ℕ) (suffix : List ℕ) (insn : MInsn) (rows : List SwitchRow) → IsInsn insn rows → drop offset (code_for body) ≡ insn_bytes insn rows ++ suffix
+    → (machine (image_of file code body) limits).step (state_at offset cells operands answers ticks) ≡ step_insn limits (state_at offset cells operands answers ticks) (frame_at offset cells operands) [] (offset + length (insn_bytes insn rows)) insn rows
+split_step file code body limits offset cells operands answers ticks suffix insn rows is bytes_are =
+    found_step limits (state_at offset cells operands answers ticks) (frame_at offset cells operands) [] (drop offset (code_for body)) suffix insn rows is bytes_are
 
 -- ---- steps that agree
 
@@ -46,7 +47,7 @@ module _ (file : ClassFile) (code : CodeAttr) (body : Body) where
   Agrees Stuck step = Unit {0}
 
   -- where the steps agree, one step of the second machine matches that of the first
-  pub matched : (limits : Limits) (state : split.State) (first : Step typed.State typed_machine.Ending) → Agrees first ((machine (image_of file code body) limits).step state) → Matches (machine (image_of file code body) limits) (SameEnding (image_of file code body)) (Belong file code body) state.input state first
+  pub matched : (limits : Limits) (state : split.State) (first : Step typed.State typed_machine.Ending) → Agrees first ((machine (image_of file code body) limits).step state) → Matches (machine (image_of file code body) limits) (SameEnding (image_of file code body)) (Belong file code body) state.answers state first
   matched limits state (Goes items next) (other, step_is, belong) = λ said. record { steps = 1; next = other; running = ap (after_step said state) step_is; holds = belong }
   matched limits state (Ends ending) (other, step_is, same) = λ said. record { steps = 1; last = state; ending = other; over = ap (after_step said state) step_is; holds = same; same_left = refl }
   matched limits state Stuck agrees = tt

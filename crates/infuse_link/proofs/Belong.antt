@@ -4,6 +4,7 @@ use Rattle.std.specs.Prelude.{◌≡◌, ℕ, ℤ, ◌+◌, ◌<◌, ◌^◌, tr
 use Rattle.std.specs.Int.{w32}
 use Rattle.std.specs.List.{AllByRecursion}
 use Rattle.cell_num.specs.Cells.{low_cell, high_cell}
+use Rattle.dialogue.specs.Answers.{Answers}
 use Rattle.class_file.specs.declared.record.ClassFile.{ClassFile}
 use Rattle.class_file.specs.declared.record.CodeAttr.{CodeAttr}
 use Rattle.jvm_model.specs.State as typed
@@ -21,7 +22,7 @@ pub record Point : Type 0 where
   pub locals : List (Option Value)
   pub numbers : List ℤ
   pub cells : List ℕ
-  pub input : List ℕ
+  pub answers : Answers
   pub ticks : ℕ
 
 -- the numbers as cells, two each, the high one on top
@@ -33,7 +34,7 @@ abbrev pub typed_frame : Point → typed.Frame
 typed_frame p = record { class = first_class; method = 0; pc = p.pc; locals = p.locals; operands = map Whole p.numbers }
 
 abbrev pub typed_at : Point → typed.State
-typed_at p = record { frames = typed_frame p ∷ []; objects = []; statics = []; input = p.input; ticks = p.ticks }
+typed_at p = record { frames = typed_frame p ∷ []; objects = []; statics = []; answers = p.answers; ticks = p.ticks }
 
 -- main's frame at an offset with these operands
 abbrev pub frame_at : ℕ → List ℕ → List ℕ → split.Frame
@@ -45,14 +46,14 @@ frame_at offset cells operands =
       cells = record { locals = cells; operands = operands };
     }
 
-abbrev pub state_at : ℕ → List ℕ → List ℕ → List ℕ → ℕ → split.State
-state_at offset cells operands input ticks =
+abbrev pub state_at : ℕ → List ℕ → List ℕ → Answers → ℕ → split.State
+state_at offset cells operands answers ticks =
     record {
       frames = frame_at offset cells operands ∷ [];
       objects = [];
       ref_statics = [];
       cell_statics = [];
-      input = input;
+      answers = answers;
       ticks = ticks;
       used = 0;
     }
@@ -64,7 +65,7 @@ abbrev pub split_frame : Body → Point → split.Frame
 split_frame body p = frame_at (place_in body p.pc) p.cells (cells_of p.numbers)
 
 abbrev pub split_at : Body → Point → split.State
-split_at body p = state_at (place_in body p.pc) p.cells (cells_of p.numbers) p.input p.ticks
+split_at body p = state_at (place_in body p.pc) p.cells (cells_of p.numbers) p.answers p.ticks
 
 -- a local that is set: it is written somewhere, and is a number that its two cells are
 pub record IsSet (body : Body) (cells : List ℕ) (local : ℕ) (value : Value) : Type 0 where

@@ -16,7 +16,7 @@ use Rattle.jvm_model.specs.NumberForm.{HasNumberForm, reads, writes, targets}
 use Rattle.jvm_model.specs.FrameCells.{slot_of, is_written, cells_below}
 use Rattle.jvm_model.specs.Expansion.{family_bytes, size_of, offset_of, expanded}
 use Rattle.jvm_model.specs.ImageOf.{code_for}
-use Rattle.jvm_model.specs.Accepted.{IsAccepted}
+use Rattle.jvm_model.proofs.NumberSets.{IsNumberSet}
 use Rattle.infuse_link.proofs.FamilySizes.{family-size, switch-size}
 use Rattle.infuse_link.proofs.BodyPlaces.{Has, has_from, contains_from, all_has, placed_has, has_placed, offset-keeps, offset-grows, offset-next, offset-within, code-from, size-within}
 use Rattle.infuse_link.proofs.BodyDecoded.{HasNumbersInOrder, IsDecoded, body_decoded, all_weaker}
@@ -84,7 +84,7 @@ few-from slot (Switch form rows default) lt = few-rows slot form rows default lt
 few-from slot (CallStatic callee) lt = tt
 few-from slot Return lt = tt
 
-module _ (files : List (List ℕ)) (file : ClassFile) (code : CodeAttr) (body : Body) (accepted : IsAccepted files file code body) where
+module _ (files : List (List ℕ)) (file : ClassFile) (code : CodeAttr) (body : Body) (accepted : IsNumberSet files file code body) where
   form : HasNumberForm code body
   form = let main = accepted.number_file.main in main.form
 

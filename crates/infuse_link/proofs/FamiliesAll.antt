@@ -52,7 +52,7 @@ pub record Stands (code : CodeAttr) (body : Body) (pc next : ℕ) (family : Fami
 
 module _ (file : ClassFile) (code : CodeAttr) (body : Body) (limits : Limits) (program : Program) (p : Point) (is : IsPoint code body p) (next : ℕ) where
   abbrev FollowedBy : Step typed_state.State typed.Ending → Type 0
-  FollowedBy step = Matches (split.machine (image_of file code body) limits) (SameEnding (image_of file code body)) (Belong file code body) p.input (split_at body p) step
+  FollowedBy step = Matches (split.machine (image_of file code body) limits) (SameEnding (image_of file code body)) (Belong file code body) p.answers (split_at body p) step
 
   abbrev split_does : MInsn → List SwitchRow → Step split_state.State split_ending.Ending
   split_does insn rows = split.step_insn limits (split_at body p) (split_frame body p) [] (place_in body next) insn rows
@@ -63,7 +63,7 @@ module _ (file : ClassFile) (code : CodeAttr) (body : Body) (limits : Limits) (p
   by_one insn rows suffix insn_is bytes_are place_is first agrees =
       let bytes : drop (place_in body p.pc) (code_for body) ≡ insn_bytes insn rows ++ suffix = bytes_are ∙ ap (λ (b : List ℕ). b ++ suffix) (append-nil (insn_bytes insn rows)) in
       let goes : place_in body p.pc + length (insn_bytes insn rows) ≡ place_in body next = ap (λ (b : List ℕ). place_in body p.pc + length b) (sym (append-nil (insn_bytes insn rows))) ∙ sym place_is in
-      let step_is = split_step file code body limits (place_in body p.pc) p.cells (cells_of p.numbers) p.input p.ticks suffix insn rows insn_is bytes ∙ ap (λ (n : ℕ). split.step_insn limits (split_at body p) (split_frame body p) [] n insn rows) goes in
+      let step_is = split_step file code body limits (place_in body p.pc) p.cells (cells_of p.numbers) p.answers p.ticks suffix insn rows insn_is bytes ∙ ap (λ (n : ℕ). split.step_insn limits (split_at body p) (split_frame body p) [] n insn rows) goes in
       matched file code body limits (split_at body p) first (subst (Agrees file code body first) (sym step_is) agrees)
 
   -- whichever constant it is
@@ -87,7 +87,7 @@ module _ (file : ClassFile) (code : CodeAttr) (body : Body) (limits : Limits) (p
       point = moved p next p.numbers;
       is_point = record { fits = is.fits; places = is.places; count = is.count; bits = is.bits; set = is.set };
       typed_is = refl;
-      split_is = ap (λ (n : ℕ). state_at n p.cells (cells_of p.numbers) p.input p.ticks) (omega (arith, stands.place_is));
+      split_is = ap (λ (n : ℕ). state_at n p.cells (cells_of p.numbers) p.answers p.ticks) (omega (arith, stands.place_is));
     };
   }
   family_followed (Const (Whole number)) stands =

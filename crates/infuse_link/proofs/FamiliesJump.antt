@@ -1,5 +1,5 @@
 -- Jumps, switches and natives: both machines do the same from a point, and count the same ticks.
-use Rattle.std.proofs.Common.{◌≡◌, ℕ, ℤ, pos, ◌+◌, ◌<◌, ◌≤◌, ◌⊎◌, inl, inr, Bool, true, false, cond, List, [], ◌∷◌, map, Option, Some, refl, sym, ap, subst, ◌∙◌, arith, FitsSigned, w32}
+use Rattle.std.proofs.Common.{◌≡◌, ℕ, ℤ, pos, ◌+◌, ◌<◌, ◌≤◌, ◌⊎◌, inl, inr, Bool, true, false, cond, List, [], ◌∷◌, map, Option, Some, None, refl, sym, ap, subst, ◌∙◌, arith, FitsSigned, w32}
 use Rattle.std.specs.Prelude.{nat_lt, nat_le, unwrap_or}
 use Rattle.std.specs.Ordering.{int_eq}
 use Rattle.std.specs.Fmt.{signed_decimal}
@@ -8,6 +8,7 @@ use Rattle.cell_num.specs.declared.conditions.Cond.{Cond}
 use Rattle.cell_num.specs.declared.conditions.Cond.TheVariants as condition
 use Rattle.cell_num.specs.Cells.{low_cell, high_cell, joined_cells}
 use Rattle.cell_num.specs.Conditions.{is_met}
+use Rattle.dialogue.specs.Answers.{Answers}
 use Rattle.dialogue.specs.Dialogue.{Get, putting}
 use Rattle.dialogue.specs.Limits.{Limits}
 use Rattle.dialogue.specs.Natives.{low_byte, next_byte, after_byte}
@@ -51,9 +52,10 @@ row_again place default [] key = refl
 row_again place default (row ∷ rows) key = row_step (int_eq row.key key) place row.target (target_in (place default) (map (moved_row place) rows) key) (typed.row_target key rows) default (row_again place default rows key)
 
 -- what is read is a number of 32 bits
-read_fits : (input : List ℕ) → FitsSigned w32 (next_byte input)
+read_fits : (answers : Answers) → FitsSigned w32 (next_byte answers)
 read_fits [] = record { sfits = omega arith }
-read_fits (byte ∷ input) = record { sfits = omega arith }
+read_fits (None ∷ rest) = record { sfits = omega arith }
+read_fits (Some byte ∷ rest) = record { sfits = omega arith }
 
 -- one more tick
 abbrev pub ticked : Point → Point
@@ -133,9 +135,9 @@ module _ (file : ClassFile) (code : CodeAttr) (body : Body) (limits : Limits) (p
 
   read_agrees : Both (typed.step_read limits.ticks (typed_at p) (typed_frame p) [] next) (split.step_read limits (split_at body p) (split_frame body p) [] (place_in body next))
   read_agrees =
-      let after = record p { pc = next; numbers = next_byte p.input ∷ p.numbers; input = after_byte p.input; ticks = p.ticks + 1 } in
+      let after = record p { pc = next; numbers = next_byte p.answers ∷ p.numbers; answers = after_byte p.answers; ticks = p.ticks + 1 } in
       within (nat_le (p.ticks + 1) limits.ticks) (Goes (Get ∷ []) (typed_at after)) (Goes (Get ∷ []) (split_at body after))
-      (split_at body after, refl, record { point = after; is_point = record { fits = (read_fits p.input, is.fits); places = is.places; count = is.count; bits = is.bits; set = is.set }; typed_is = refl; split_is = refl })
+      (split_at body after, refl, record { point = after; is_point = record { fits = (read_fits p.answers, is.fits); places = is.places; count = is.count; bits = is.bits; set = is.set }; typed_is = refl; split_is = refl })
 
   pub call_agrees : (native : Native) → Both (typed.step_native limits.ticks (typed_at p) (typed_frame p) [] next native) (split.step_call limits (split_at body p) (split_frame body p) [] (place_in body next) (native_id native))
   call_agrees WriteByte = show_agrees (λ number. low_byte number ∷ []) p.numbers is.fits

@@ -17,7 +17,7 @@ use Rattle.jvm_model.specs.Machine as typed
 use Rattle.jvm_model.specs.Body.{Body, placed_in}
 use Rattle.jvm_model.specs.NumberForm.{HasNumberMain, is_of_form, reads, writes, IsBelow}
 use Rattle.jvm_model.specs.ImageOf.{image_of}
-use Rattle.jvm_model.specs.Accepted.{IsAccepted}
+use Rattle.jvm_model.proofs.NumberSets.{IsNumberSet}
 use Rattle.mote_model.specs.State as split_state
 use Rattle.mote_model.specs.Machine as split
 use Rattle.infuse_link.specs.RunsAlike.{SameEnding}
@@ -38,7 +38,7 @@ main_family file code body main pc =
     ap (option_and_then (family_in file.pool pc)) (main_code file code body main)
     ∙ ap (option_and_then (λ (b : Body). placed_in b (length code.code) pc)) main.is_body
 
-module _ (files : List (List ℕ)) (file : ClassFile) (code : CodeAttr) (body : Body) (accepted : IsAccepted files file code body) where
+module _ (files : List (List ℕ)) (file : ClassFile) (code : CodeAttr) (body : Body) (accepted : IsNumberSet files file code body) where
   main : HasNumberMain file code body
   main = accepted.number_file.main
 
@@ -63,7 +63,7 @@ module _ (files : List (List ℕ)) (file : ClassFile) (code : CodeAttr) (body : 
   module _ (limits : Limits) where
     -- what the split machine does for a step of the typed machine from a point
     abbrev FollowedAt : Point → Step typed_state.State typed.Ending → Type 0
-    FollowedAt p step = Matches (split.machine (image_of file code body) limits) (SameEnding (image_of file code body)) (Belong file code body) p.input (split_at body p) step
+    FollowedAt p step = Matches (split.machine (image_of file code body) limits) (SameEnding (image_of file code body)) (Belong file code body) p.answers (split_at body p) step
 
     at_placed : (p : Point) → IsPoint code body p → (found : Option Placed) → placed_in body (length code.code) p.pc ≡ found → FollowedAt p (typed.step_placed (program_of file) limits.ticks (typed_at p) (typed_frame p) [] found)
     at_placed p is None found_is = tt
@@ -77,6 +77,6 @@ module _ (files : List (List ℕ)) (file : ClassFile) (code : CodeAttr) (body : 
     pub follows : Follows (typed.machine (program_of file) limits.ticks) (split.machine (image_of file code body) limits) (SameEnding (image_of file code body)) (Belong file code body)
     follows a b belong =
         let p = belong.point in
-        subst (λ (first : typed_state.State). Matches (split.machine (image_of file code body) limits) (SameEnding (image_of file code body)) (Belong file code body) first.input b (typed.step (program_of file) limits.ticks first)) (sym belong.typed_is)
-        (subst (λ (second : split_state.State). Matches (split.machine (image_of file code body) limits) (SameEnding (image_of file code body)) (Belong file code body) p.input second (typed.step (program_of file) limits.ticks (typed_at p))) (sym belong.split_is)
+        subst (λ (first : typed_state.State). Matches (split.machine (image_of file code body) limits) (SameEnding (image_of file code body)) (Belong file code body) first.answers b (typed.step (program_of file) limits.ticks first)) (sym belong.typed_is)
+        (subst (λ (second : split_state.State). Matches (split.machine (image_of file code body) limits) (SameEnding (image_of file code body)) (Belong file code body) p.answers second (typed.step (program_of file) limits.ticks (typed_at p))) (sym belong.split_is)
         (at_point p belong.is_point))

@@ -16,7 +16,7 @@ use Rattle.jvm_model.specs.NumberForm.{HasNumberForm, is_of_form, targets, is_in
 use Rattle.jvm_model.specs.FrameCells.{slot_of, cells_below, greatest_height, body_cells}
 use Rattle.jvm_model.specs.Expansion.{Emitted, emitted_bytes, offset_of}
 use Rattle.jvm_model.specs.ImageOf.{object_id, name_of_class, code_for, image_of}
-use Rattle.jvm_model.specs.Accepted.{IsAccepted}
+use Rattle.jvm_model.proofs.NumberSets.{IsNumberSet}
 use Rattle.infuse_link.proofs.PoolEntries.{class_name_at-fits}
 use Rattle.infuse_link.proofs.BodyPlaces.{Has, contains_from, all_has}
 use Rattle.infuse_link.proofs.BodyDecoded.{all_weaker}
@@ -46,7 +46,7 @@ main_method code body = small_method 0 (cells_below body code.max_locals) (body_
 abbrev pub instructions : Body → List Emitted
 instructions body = all_expanded (slot_of body) (offset_of (slot_of body) body) body
 
-module _ (files : List (List ℕ)) (file : ClassFile) (code : CodeAttr) (body : Body) (accepted : IsAccepted files file code body) where
+module _ (files : List (List ℕ)) (file : ClassFile) (code : CodeAttr) (body : Body) (accepted : IsNumberSet files file code body) where
   form : HasNumberForm code body
   form = let main = accepted.number_file.main in main.form
 

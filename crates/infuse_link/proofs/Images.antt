@@ -18,7 +18,7 @@ use Rattle.jvm_model.specs.NumberForm.{HasNumberForm, HasNumberMain, IsBelow, wr
 use Rattle.jvm_model.specs.FrameCells.{is_number, is_written, cells_below, slot_of, number_cells, greatest_height, body_cells, frame_cells}
 use Rattle.jvm_model.specs.Expansion.{family_bytes, body_bytes, size_of, offset_of}
 use Rattle.jvm_model.specs.ImageOf.{code_for, image_of, object_id, name_of_class}
-use Rattle.jvm_model.specs.Accepted.{IsAccepted}
+use Rattle.jvm_model.proofs.NumberSets.{IsNumberSet}
 use Rattle.infuse_link.specs.declared.locals.Slots.{Slots}
 use Rattle.infuse_link.specs.declared.offsets.Offsets.{Offsets}
 use Rattle.infuse_link.specs.declared.stop.Stop.{Stop}
@@ -136,7 +136,7 @@ all_from : {X : Type 0} (P : X → Type 0) (xs : List X) → ((x : X) → Contai
 all_from P [] f = tt
 all_from P (x ∷ xs) f = (f x (0, omega arith, refl), all_from P xs (λ y within. f y (suc within.0, omega (arith, within.1), within.2)))
 
-pub all_fit : (files : List (List ℕ)) (file : ClassFile) (code : CodeAttr) (body : Body) → IsAccepted files file code body → (slot place : ℕ → ℕ) → slot ≡ slot_of body → place ≡ offset_of (slot_of body) body
+pub all_fit : (files : List (List ℕ)) (file : ClassFile) (code : CodeAttr) (body : Body) → IsNumberSet files file code body → (slot place : ℕ → ℕ) → slot ≡ slot_of body → place ≡ offset_of (slot_of body) body
     → AllByRecursion (λ (x : ℕ × Family). Fits slot place x.1) body
 all_fit files file code body accepted slot place e f =
     subst (λ s. AllByRecursion (λ (x : ℕ × Family). Fits s place x.1) body) (sym e)

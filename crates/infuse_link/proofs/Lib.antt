@@ -20,6 +20,7 @@ pub mod Scans
 pub mod OutsideFirsts
 pub mod ReadSets
 pub mod Verdicts
+pub mod AcceptedSets
 pub mod SetElements
 pub mod Belong
 pub mod LocalCells

@@ -17,7 +17,7 @@ use Rattle.jvm_model.specs.declared.refusal.Refusal.{Refusal}
 use Rattle.jvm_model.specs.ProgramOf.{insns_in}
 use Rattle.jvm_model.specs.Phases.{record_in}
 use Rattle.jvm_model.specs.Reached.{Ways}
-use Rattle.jvm_model.specs.Accepted.{is_plain_insn, unbuilt_at, FirstOf, IfThere, NamesFirst, OutsideInsn, OutsideInsns, OutsideCode, OutsideClass, OutsideFile}
+use Rattle.jvm_model.specs.BuiltForm.{is_plain_insn, unbuilt_at, FirstOf, IfThere, NamesFirst, OutsideInsn, OutsideInsns, OutsideCode, OutsideClass, OutsideFile}
 use Rattle.infuse_link.specs.Sets.{AreRead, is_inside, first_outside}
 use Rattle.infuse_link.specs.Reach.{TellsReached}
 use Rattle.infuse_link.proofs.Scans.{from_place}

@@ -1,5 +1,5 @@
 -- Sets whose files are read: what the records say is what the files say.
-use Rattle.std.proofs.Common.{◌≡◌, ℕ, suc, List, [], ◌∷◌, ◌++◌, length, Option, Some, None, option_and_then, Result, refl, ap, ◌∙◌}
+use Rattle.std.proofs.Common.{◌≡◌, ℕ, suc, List, [], ◌∷◌, ◌++◌, length, Option, None, option_and_then, Result, refl, ap, ◌∙◌}
 use Rattle.std.specs.List.{AllByRecursion}
 use Rattle.std.specs.Option.{option_or}
 use Rattle.class_file.specs.declared.record.ClassFile.{ClassFile}
@@ -8,7 +8,7 @@ use Rattle.class_file.specs.Relation.{IsClassFile}
 use Rattle.class_file.specs.ReadingClass.{class_of}
 use Rattle.class_file.proofs.Whole.{file_again}
 use Rattle.jvm_model.specs.declared.refusal.Refusal.{Refusal}
-use Rattle.jvm_model.specs.Phases.{first_refusal, size_refusal, unless_read, reading_refusal, record_in, class_refusal, code_refusal, early_refusal}
+use Rattle.jvm_model.specs.Phases.{first_refusal, unless_read, reading_refusal, record_in}
 use Rattle.infuse_link.specs.Sets.{AreRead, IsRecord}
 
 -- one more file, and its record
@@ -48,24 +48,3 @@ none_unread place [] (class ∷ classes) all = absurd all
 none_unread place (bytes ∷ files) [] all = absurd all
 none_unread place (bytes ∷ files) (class ∷ classes) all =
     ap (λ (r : Option Refusal). option_or r (first_refusal reading_refusal (suc place) files)) (read_passes place bytes class all.0) ∙ none_unread (suc place) files classes all.1
-
--- ---- the early phases
-
-both_none : (a b c : Option Refusal) (found : Option Refusal) → a ≡ None → b ≡ None → c ≡ found → option_or a (option_or b c) ≡ found
-both_none a b c found x y z =
-    ap (λ (r : Option Refusal). option_or r (option_or b c)) x ∙ ap (λ (r : Option Refusal). option_or r c) y ∙ z
-
--- the size decides
-pub size_decides : (files : List (List ℕ)) (why : Refusal) → size_refusal files ≡ Some why → early_refusal files ≡ Some why
-size_decides files why e = ap (λ (r : Option Refusal). option_or r (option_or (first_refusal reading_refusal 0 files) (first_refusal code_refusal 0 files))) e
-
--- the size passes, and reading decides
-pub reading_decides : (files : List (List ℕ)) (why : Refusal) → size_refusal files ≡ None → first_refusal reading_refusal 0 files ≡ Some why → early_refusal files ≡ Some why
-reading_decides files why size e =
-    ap (λ (r : Option Refusal). option_or r (option_or (first_refusal reading_refusal 0 files) (first_refusal code_refusal 0 files))) size
-    ∙ ap (λ (r : Option Refusal). option_or r (first_refusal code_refusal 0 files)) e
-
--- size and reading pass, and code decides
-pub code_decides : (files : List (List ℕ)) (classes : List ClassFile) (found : Option Refusal) → size_refusal files ≡ None → AreRead files classes → first_refusal class_refusal 0 classes ≡ found → early_refusal files ≡ found
-code_decides files classes found size read e =
-    both_none (size_refusal files) (first_refusal reading_refusal 0 files) (first_refusal code_refusal 0 files) found size (none_unread 0 files classes read) (scan_same class_refusal 0 files classes read ∙ e)

@@ -1,5 +1,6 @@
 -- What is answered for a set is its verdict.
-use Rattle.std.proofs.Common.{inl, inr, ◌≡◌, ℕ, ◌<◌, ◌≤◌, List, [], ◌∷◌, length, get_or, None, refl, sym, ap, ◌∙◌, subst, arith}
+use Rattle.std.proofs.Common.{inl, inr, ◌≡◌, ℕ, ◌<◌, ◌≤◌, List, [], ◌∷◌, length, get_or, Some, None, refl, sym, ap, ◌∙◌, subst, arith}
+use Rattle.std.proofs.lemmas.Option.{none-some, same_Some}
 use Rattle.std.specs.Prelude.{Result, Ok, Err, IfOk, IfErr}
 use Rattle.class_file.specs.declared.record.ClassFile.{ClassFile}
 use Rattle.class_file.specs.declared.record.CodeAttr.{CodeAttr}
@@ -11,16 +12,22 @@ use Rattle.jvm_model.specs.declared.refusal.Cause.TheVariants as cause
 use Rattle.jvm_model.specs.declared.refusal.Refusal.{Refusal}
 use Rattle.jvm_model.specs.Body.{Body}
 use Rattle.jvm_model.specs.NumberForm.{HasNumberMain}
-use Rattle.jvm_model.specs.ImageOf.{image_of}
-use Rattle.jvm_model.specs.Phases.{first_refusal, size_refusal, class_refusal}
-use Rattle.jvm_model.specs.Accepted.{IsNumberFile, IsAccepted, IsNone, FailsLate, IsRefused, refusal_of_main}
-use Rattle.jvm_model.proofs.VerdictLaws.{accepted_or_refused, one_acceptance, one_refusal}
+use Rattle.jvm_model.specs.Phases.{SetSize, first_refusal, class_refusal}
+use Rattle.jvm_model.specs.Linked.{IsNumberFile, Linked, refusal_of_main}
+use Rattle.jvm_model.specs.BuiltForm.{BuiltForm}
+use Rattle.jvm_model.specs.FrameSize.{FrameSize, most_frame_cells}
+use Rattle.jvm_model.specs.CodeLength.{CodeLength}
+use Rattle.jvm_model.specs.Verdict.{FirstRefusal, IsRefused}
+use Rattle.jvm_model.specs.SetImage.{IsImageOf}
+use Rattle.jvm_model.proofs.NumberSets.{IsNumberSet, linked_as, accepted_as}
+use Rattle.jvm_model.proofs.SetRuns.{image_is_one}
+use Rattle.jvm_model.proofs.VerdictLaws.{same_cells, verdict_unique}
 use Rattle.infuse_link.specs.declared.stop.Stop.{Stop}
 use Rattle.infuse_link.specs.declared.stop.Stop.TheVariants.{Unbuilt, FrameTooLarge, CodeTooLong, Memory}
-use Rattle.infuse_link.specs.Infused.{IsInfused, Gives}
+use Rattle.infuse_link.specs.Infused.{Gives}
 use Rattle.infuse_link.specs.ClassImage.{IsClassImage, StopsFor, RefusedOrMemory}
 use Rattle.infuse_link.specs.Sets.{AreRead, IsOneClass, SetStopsFor, RefusesFor}
-use Rattle.infuse_link.proofs.ReadSets.{code_decides}
+use Rattle.infuse_link.proofs.ReadSets.{scan_same, none_unread}
 use Rattle.infuse_link.proofs.OutsideFirsts.{named_read}
 
 -- ---- the one file of a set
@@ -44,22 +51,18 @@ number_of files class one form code body main = record { class_file = record { c
 
 -- ---- what was read is infused or refused
 
-pub set_infused : (files : List (List ℕ)) (classes : List ClassFile) (image : Image) → AreRead files classes → IsOneClass classes (λ class. IsClassImage class image) → IsInfused files image
+pub set_infused : (files : List (List ℕ)) (classes : List ClassFile) (image : Image) → AreRead files classes → IsOneClass classes (λ class. IsClassImage class image) → IsImageOf files image
 set_infused files classes image read made =
     let one = file_of files classes made.class read made.classes_are in
+    let number : IsNumberSet files made.class made.has.code made.has.body =
     record {
-      file = made.class;
-      code = made.has.code;
-      body = made.has.body;
-      accepted = record {
-        bytes = one.bytes;
-        files_are = one.files_are;
-        number_file = number_of files made.class one made.form made.has.code made.has.body made.has.main;
-        frame_fits = made.has.frame_fits;
-        code_fits = made.has.code_fits;
-      };
-      image_is = made.has.image_is;
-    }
+      bytes = one.bytes;
+      files_are = one.files_are;
+      number_file = number_of files made.class one made.form made.has.code made.has.body made.has.main;
+      frame_fits = made.has.frame_fits;
+      code_fits = made.has.code_fits;
+    } in
+    record { accepted = accepted_as files made.class made.has.code made.has.body number; linked = linked_as files made.class made.has.code made.has.body number; image_is = made.has.image_is }
 
 -- a file of the number form is the one class
 class_is : (bytes : List ℕ) (files : List (List ℕ)) (classes : List ClassFile) (file : ClassFile) → files ≡ bytes ∷ [] → IsOneMain bytes file → AreRead files classes → classes ≡ file ∷ []
@@ -70,45 +73,37 @@ class_is bytes files classes file is main read = only classes (subst (λ (f : Li
     only (class ∷ []) all = ap (λ (c : ClassFile). c ∷ []) (one_record bytes class file all.0 main.class_file)
     only (class ∷ other ∷ more) all = absurd all.1
 
-none_of : (files : List (List ℕ)) (classes : List ClassFile) → AreRead files classes → SetStopsFor classes Unbuilt → IsNone files
-none_of files classes read stops = λ bytes file code body is number.
-    stops code body (record { class = file; classes_are = class_is bytes files classes file is number.class_file read; form = number.class_file.form; has = number.main })
+none_of : (files : List (List ℕ)) (classes : List ClassFile) → AreRead files classes → SetStopsFor classes Unbuilt → Linked files → ⊥
+none_of files classes read stops linked =
+    stops linked.code linked.body (record { class = linked.file; classes_are = class_is linked.bytes files classes linked.file linked.files_are linked.number_file.class_file read; form = linked.number_file.class_file.form; has = linked.number_file.main })
+
+-- what belongs to a set of one class
+abbrev linked_class : (files : List (List ℕ)) (class : ClassFile) → OneFile files class → HasOneMainRecord class → (code : CodeAttr) (body : Body) → HasNumberMain class code body → Linked files
+linked_class files class one form code body main = record { bytes = one.bytes; files_are = one.files_are; file = class; code = code; body = body; number_file = number_of files class one form code body main }
 
 -- the early phases pass, and the set has no image for this reason
-module _ (files : List (List ℕ)) (classes : List ClassFile) (size : size_refusal files ≡ None) (read : AreRead files classes) (coded : first_refusal class_refusal 0 classes ≡ None) where
-  late : (why : Refusal) → FailsLate files why → RefusedOrMemory files why
-  late why fails = inr (inr (code_decides files classes None size read coded, fails))
+module _ (files : List (List ℕ)) (classes : List ClassFile) (size : SetSize files None) (read : AreRead files classes) (coded : first_refusal class_refusal 0 classes ≡ None) where
+  late : (why : Refusal) → FirstRefusal (BuiltForm ∷ FrameSize ∷ CodeLength ∷ []) files (Some why) → RefusedOrMemory files why
+  late why fails = inr (inr (size, inr (none_unread 0 files classes read, inr (scan_same class_refusal 0 files classes read ∙ coded, fails))))
 
   pub set_refused : (why : Stop) (refusal : Refusal) → SetStopsFor classes why → RefusesFor classes why refusal → RefusedOrMemory files refusal
   set_refused Unbuilt refusal stops (inl memory) = inl memory
   set_refused Unbuilt refusal stops (inr names) = late refusal (inl (record { none = none_of files classes read stops; names = named_read files classes refusal read names }))
   set_refused (FrameTooLarge cells) refusal stops is =
       let one = file_of files classes stops.class read stops.classes_are in
-      late refusal
-      (inr (inl (record {
-        bytes = one.bytes;
-        files_are = one.files_are;
-        file = stops.class;
-        code = stops.has.code;
-        body = stops.has.body;
-        number_file = number_of files stops.class one stops.form stops.has.code stops.has.body stops.has.main;
-        exceeds = stops.has.exceeds;
-        is = is ∙ ap (refusal_of_main cause.FrameTooLarge) stops.has.is;
-      })))
+      let linked = linked_class files stops.class one stops.form stops.has.code stops.has.body stops.has.main in
+      late refusal (inr (linked, inl (record { linked = linked; exceeds = stops.has.exceeds; is = is ∙ ap (refusal_of_main cause.FrameTooLarge) stops.has.is })))
   set_refused (CodeTooLong bytes) refusal stops is =
       let one = file_of files classes stops.class read stops.classes_are in
+      let linked = linked_class files stops.class one stops.form stops.has.code stops.has.body stops.has.main in
       late refusal
-      (inr (inr (record {
-        bytes = one.bytes;
-        files_are = one.files_are;
-        file = stops.class;
-        code = stops.has.code;
-        body = stops.has.body;
-        number_file = number_of files stops.class one stops.form stops.has.code stops.has.body stops.has.main;
-        frame_fits = stops.has.frame_fits;
-        exceeds = stops.has.exceeds;
-        is = is ∙ ap (refusal_of_main cause.CodeTooLong) stops.has.is;
-      })))
+      (inr (
+        linked,
+        inr (
+          λ other. subst (λ cells. cells ≤ most_frame_cells) (same_cells files linked other) stops.has.frame_fits,
+          inl (record { linked = linked; exceeds = stops.has.exceeds; is = is ∙ ap (refusal_of_main cause.CodeTooLong) stops.has.is }),
+        ),
+      ))
   set_refused Memory refusal stops is = inl (ap (λ (r : Refusal). r.cause) is)
 
 -- ---- one class
@@ -137,17 +132,11 @@ class_stops classes class is form Memory stops = tt
 
 -- ---- the answer
 
-pub one_image : (files : List (List ℕ)) (file other : ClassFile) (code rest : CodeAttr) (body tail : Body) → IsAccepted files file code body → IsAccepted files other rest tail → image_of file code body ≡ image_of other rest tail
-one_image files file other code rest body tail one two =
-    let same = one_acceptance files file code body other rest tail one two in
-    ap (λ (f : ClassFile). image_of f code body) same.0 ∙ ap (λ (c : CodeAttr). image_of other c body) same.1 ∙ ap (image_of other rest) same.2
+pub gives_image : (files : List (List ℕ)) (r : Result Image Refusal) → IfOk r (IsImageOf files) → IfErr r (RefusedOrMemory files) → (image : Image) → IsImageOf files image → Gives r (Ok image)
+gives_image files (Ok other) found refused image is = ap (λ (i : Image). Ok i) (image_is_one files image other is found)
+gives_image files (Err why) found refused image is = elim refused [ inl e ↦ inl e | inr was ↦ absurd (none-some why (verdict_unique files None (Some why) is.accepted was)) ]
 
-pub gives_image : (files : List (List ℕ)) (r : Result Image Refusal) → IfOk r (IsInfused files) → IfErr r (RefusedOrMemory files) → (file : ClassFile) (code : CodeAttr) (body : Body) → IsAccepted files file code body → Gives r (Ok (image_of file code body))
-gives_image files (Ok image) found refused file code body accepted = ap (λ (i : Image). Ok i) (one_image files file found.file code found.code body found.body accepted found.accepted ∙ sym found.image_is)
-gives_image files (Err why) found refused file code body accepted =
-    elim refused [ inl e ↦ inl e | inr is ↦ absurd (accepted_or_refused files file code body why accepted is) ]
-
-pub gives_refusal : (files : List (List ℕ)) (r : Result Image Refusal) → IfOk r (IsInfused files) → IfErr r (RefusedOrMemory files) → (why : Refusal) → IsRefused files why → Gives r (Err why)
-gives_refusal files (Ok image) found refused why is = absurd (accepted_or_refused files found.file found.code found.body why found.accepted is)
+pub gives_refusal : (files : List (List ℕ)) (r : Result Image Refusal) → IfOk r (IsImageOf files) → IfErr r (RefusedOrMemory files) → (why : Refusal) → IsRefused files why → Gives r (Err why)
+gives_refusal files (Ok image) found refused why is = absurd (none-some why (verdict_unique files None (Some why) found.accepted is))
 gives_refusal files (Err other) found refused why is =
-    elim refused [ inl e ↦ inl e | inr was ↦ inr (ap (λ (w : Refusal). Err w) (one_refusal files why other is was)) ]
+    elim refused [ inl e ↦ inl e | inr was ↦ inr (ap (λ (w : Refusal). Err w) (same_Some why other (verdict_unique files (Some why) (Some other) is was))) ]

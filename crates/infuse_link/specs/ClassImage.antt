@@ -11,8 +11,11 @@ use Rattle.jvm_model.specs.Body.{Body}
 use Rattle.jvm_model.specs.ProgramOf.{body_of}
 use Rattle.jvm_model.specs.NumberForm.{HasNumberForm, HasNumberMain}
 use Rattle.jvm_model.specs.FrameCells.{frame_cells}
+use Rattle.jvm_model.specs.Phases.{saturated}
 use Rattle.jvm_model.specs.ImageOf.{code_for, image_of}
-use Rattle.jvm_model.specs.Accepted.{IsRefused, most_frame_cells, most_code_bytes}
+use Rattle.jvm_model.specs.Verdict.{IsRefused}
+use Rattle.jvm_model.specs.FrameSize.{most_frame_cells}
+use Rattle.jvm_model.specs.CodeLength.{most_code_bytes}
 use Rattle.infuse_link.specs.declared.stop.Stop.{Stop}
 use Rattle.infuse_link.specs.declared.stop.Stop.TheVariants.{Unbuilt, FrameTooLarge, CodeTooLong, Memory}
 
@@ -50,14 +53,14 @@ pub record HasLargeMain (file : ClassFile) (value : ℕ) : Type 0 where
   pub exceeds : most_frame_cells < frame_cells code.max_locals body
   pub is : value ≡ frame_cells code.max_locals body
 
--- main's frame keeps to its limit, and its machine code exceeds its own, and has so many bytes
+-- main's frame keeps to its limit, and its machine code exceeds its own, and has so many bytes, as far as a field holds
 pub record HasLongMain (file : ClassFile) (value : ℕ) : Type 0 where
   pub code : CodeAttr
   pub body : Body
   pub main : HasNumberMain file code body
   pub frame_fits : frame_cells code.max_locals body ≤ most_frame_cells
   pub exceeds : most_code_bytes < length (code_for body)
-  pub is : value ≡ length (code_for body)
+  pub is : value ≡ saturated (length (code_for body))
 
 -- the class has no image for this reason
 abbrev pub StopsFor : ClassFile → Stop → Type 0

@@ -1,5 +1,5 @@
 -- The records of the files of a set, and why a set of records has no image.
-use Rattle.std.specs.Prelude.{◌≡◌, ◌⊎◌, ℕ, Bool, not, ◌||◌, List, [], ◌∷◌, Option, option_map}
+use Rattle.std.specs.Prelude.{◌≡◌, ◌⊎◌, ℕ, Bool, not, ◌||◌, List, [], ◌∷◌, Option, Some, None, option_map, Result, Ok, Err}
 use Rattle.class_pool.specs.Pool.{Slots}
 use Rattle.class_code.specs.declared.insn.Insn.{Insn}
 use Rattle.class_code.specs.Code.{Insns, first_other}
@@ -9,9 +9,14 @@ use Rattle.class_file.specs.Relation.{IsClassFile}
 use Rattle.class_file.specs.OneMain.{HasOneMainRecord}
 use Rattle.jvm_model.specs.declared.refusal.Refusal.{Refusal}
 use Rattle.jvm_model.specs.declared.refusal.Cause.TheVariants as cause
+use Rattle.class_file.specs.declared.refusal.ReadRefusal.{ReadRefusal}
+use Rattle.class_code.specs.declared.refusal.CodeRefusal.{CodeRefusal}
+use Rattle.class_code.specs.declared.refusal.CodeRefusal.TheVariants.{BadCode}
+use Rattle.jvm_model.specs.Phases.{refusal_of_reading, refusal_of_code}
 use Rattle.jvm_model.specs.Body.{Body}
 use Rattle.jvm_model.specs.NumberForm.{HasNumberMain}
-use Rattle.jvm_model.specs.Accepted.{is_plain_insn, NamesFirst, OutsideClass, refusal_of_main}
+use Rattle.jvm_model.specs.BuiltForm.{is_plain_insn, NamesFirst, OutsideClass}
+use Rattle.jvm_model.specs.Linked.{refusal_of_main}
 use Rattle.infuse_link.specs.declared.stop.Stop.{Stop}
 use Rattle.infuse_link.specs.declared.stop.Stop.TheVariants.{Unbuilt, FrameTooLarge, CodeTooLong, Memory}
 use Rattle.infuse_link.specs.ClassImage.{HasLargeMain, HasLongMain}
@@ -54,3 +59,17 @@ RefusesFor classes Unbuilt refusal = (refusal.cause ≡ cause.Memory) ⊎ NamesF
 RefusesFor classes (FrameTooLarge cells) refusal = refusal ≡ refusal_of_main cause.FrameTooLarge cells
 RefusesFor classes (CodeTooLong bytes) refusal = refusal ≡ refusal_of_main cause.CodeTooLong bytes
 RefusesFor classes Memory refusal = refusal ≡ refusal_of_main cause.Memory 0
+
+-- ---- what the parts answer, as the set says it
+
+abbrev pub reading_said : ℕ → ℕ → Result ClassFile ReadRefusal → Result ClassFile Refusal
+reading_said file size (Ok class) = Ok class
+reading_said file size (Err why) = Err (refusal_of_reading file size why)
+
+abbrev pub testing_said : ℕ → ℕ → Result (Unit {0}) CodeRefusal → Result (Unit {0}) Refusal
+testing_said file member (Ok done) = Ok done
+testing_said file member (Err why) = Err (refusal_of_code file member why)
+
+abbrev pub handlers_said : Option ℕ → Result (Unit {0}) CodeRefusal
+handlers_said None = Ok tt
+handlers_said (Some pc) = Err (BadCode pc)

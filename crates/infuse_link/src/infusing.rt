@@ -1,26 +1,25 @@
 //! From a set of class files to its image.
 
-ghost use Rattle.std.specs.Prelude.{◌≡◌, ℕ, ◌≤◌, ◌⊎◌, true, List, [], ◌∷◌, map, Ok, Err, IfOk, IfErr};
+ghost use Rattle.std.specs.Prelude.{◌≡◌, ℕ, ◌≤◌, ◌⊎◌, true, List, [], ◌∷◌, map, Some, None, Ok, Err, IfOk, IfErr};
 ghost use Rattle.std.specs.List.{AllByRecursion};
 ghost use Rattle.std.specs.Option.{option_copied};
-ghost use Rattle.dialogue.specs.Limits.{Limits};
 ghost use Rattle.class_file.specs.declared.record.ClassFile.{ClassFile as Record};
 ghost use Rattle.class_file.specs.declared.record.CodeAttr.{CodeAttr as MainCode};
-ghost use Rattle.image_form.specs.Grammar.{IsImage};
+ghost use Rattle.image_form.specs.declared.record.Image.{Image as SetImage};
 ghost use Rattle.image_form.specs.SmallForm.{small_class, small_method, small_image};
-ghost use Rattle.image_check.specs.Checked.{IsChecked, IsBuilt};
 ghost use Rattle.jvm_model.specs.declared.refusal.Cause.TheVariants as cause;
 ghost use Rattle.jvm_model.specs.declared.refusal.Refusal.{Refusal as Reason};
 ghost use Rattle.jvm_model.specs.Body.{Body};
-ghost use Rattle.jvm_model.specs.ProgramOf.{program_of};
 ghost use Rattle.jvm_model.specs.NumberForm.{is_of_form, HasNumberForm};
-ghost use Rattle.jvm_model.specs.FrameCells.{greatest_height, frame_cells};
+ghost use Rattle.jvm_model.specs.FrameCells.{greatest_height};
 ghost use Rattle.jvm_model.specs.ImageOf.{object_id, name_of_class, image_of};
-ghost use Rattle.jvm_model.specs.Accepted.{IsAccepted, IsRefused, refusal_of_main};
+ghost use Rattle.jvm_model.specs.SetImage.{IsImageOf};
+ghost use Rattle.jvm_model.specs.Phases.{SetSize};
+ghost use Rattle.jvm_model.specs.Verdict.{IsRefused};
+ghost use Rattle.jvm_model.specs.Linked.{refusal_of_main};
 ghost use Rattle.infuse_link.specs.declared.stop.Stop.TheVariants.{Memory};
-ghost use Rattle.infuse_link.specs.Infused.{IsInfused, Gives};
+ghost use Rattle.infuse_link.specs.Infused.{Gives};
 ghost use Rattle.infuse_link.specs.Sets.{IsRecord, IsOneClass, SetStopsFor, RefusesFor};
-ghost use Rattle.infuse_link.specs.RunsAlike.{RunsAlike};
 ghost use Rattle.infuse_link.specs.NumberInsns.{body_meant};
 ghost use Rattle.infuse_link.specs.Reach.{RisesFrom};
 ghost use Rattle.infuse_link.specs.ClassImage.{IsFile, HasBody, IsClassImage, StopsFor, FormStopsFor, RefusedOrMemory, only_code};
@@ -52,31 +51,35 @@ const MOST_CODE_BYTES: u32 = 65_535;
 /// place in its class, an instruction by its pc.
 pub fn infuse(alloc: Global, files: &[Vec<u8>]) -> Result<Image, Refusal>
     // What is answered is the image of the set, and the image of an accepted set is answered.
-    ensures found { IfOk result (IsInfused (map (λ v. v.items) files.now)) }
-    ensures only { (file : Record) (code : MainCode) (body : Body) → IsAccepted (map (λ v. v.items) files.now) file code body → Gives result (Ok (image_of file code body)) }
+    ensures found { IfOk result (IsImageOf (map (λ v. v.items) files.now)) }
+    ensures only { (image : SetImage) → IsImageOf (map (λ v. v.items) files.now) image → Gives result (Ok image) }
 
-    // Which refusal it is.
+    // Which refusal it is; that of a set that is too large comes before memory is asked for.
     ensures refused { IfErr result (λ why. (why.cause ≡ cause.Memory) ⊎ IsRefused (map (λ v. v.items) files.now) why) }
     ensures refused_only { (why : Reason) → IsRefused (map (λ v. v.items) files.now) why → Gives result (Err why) }
-
-    // The image is of the grammar, keeps the rules of the check, and is run.
-    ensures image { IfOk result IsImage }
-    ensures checked { IfOk result IsChecked }
-    ensures built { IfOk result IsBuilt }
-
-    // Its limited run is that of the class file.
-    ensures runs_alike { IfOk result (λ image. (file : Record) (code : MainCode) (body : Body) → IsAccepted (map (λ v. v.items) files.now) file code body
-        → (limits : Limits) (input : List ℕ) → RunsAlike (program_of file) (frame_cells code.max_locals body) image limits input) }
+    ensures too_large { (why : Reason) → SetSize (map (λ v. v.items) files.now) (Some why) → result ≡ Err why }
 {
     infuse_set(alloc, files)
 }
 
 /// The image of a set of files.
 fn infuse_set(alloc: Global, files: &[Vec<u8>]) -> Result<Image, Refusal>
-    ensures found { IfOk result (IsInfused (map (λ v. v.items) files.now)) }
+    ensures found { IfOk result (IsImageOf (map (λ v. v.items) files.now)) }
+    ensures refused { IfErr result (RefusedOrMemory (map (λ v. v.items) files.now)) }
+    ensures too_large { (why : Reason) → SetSize (map (λ v. v.items) files.now) (Some why) → result ≡ Err why }
+{
+    match test_size(files) {
+        Ok(()) => infuse_sized(alloc, files),
+        Err(why) => Err(why),
+    }
+}
+
+/// The image of a set of files that is not too large.
+fn infuse_sized(alloc: Global, files: &[Vec<u8>]) -> Result<Image, Refusal>
+    requires { SetSize (map (λ v. v.items) files.now) None }
+    ensures found { IfOk result (IsImageOf (map (λ v. v.items) files.now)) }
     ensures refused { IfErr result (RefusedOrMemory (map (λ v. v.items) files.now)) }
 {
-    test_size(files)?;
     let classes = read_files(alloc, files)?;
     test_classes(alloc, classes.as_slice())?;
     match infuse_classes(alloc, classes.as_slice()) {

@@ -1,6 +1,6 @@
 //! The infuser: `infuse` turns a set of class files into an image, or says why the set is refused. The
-//! image is that of the set (`jvm_model`), it is checked, and its limited run is that of the class files
-//! (specs/RunsAlike.antt). This crate stands on `jvm_model`, `class_code`, `image_check` and
+//! image is that of the set (`jvm_model`); such an image is checked, and its limited run is that of the set
+//! (`accepted_sets_run`, specs/RunsAlike.antt). This crate stands on `jvm_model`, `class_code`, `image_check` and
 //! `mote_model`.
 #![tactic(auto)]
 
@@ -8,6 +8,7 @@ mod body;
 mod emit;
 mod exits;
 mod infusing;
+mod laws;
 mod locals;
 mod marks;
 mod number_insn;
@@ -16,7 +17,6 @@ mod outside;
 mod reach;
 mod sets;
 mod stop;
-#[cfg(test)]
-mod tests;
 
 pub use infusing::infuse;
+pub use laws::accepted_sets_run;

@@ -1,6 +1,6 @@
 //! Where the machine instructions of a body stand.
 
-ghost use Rattle.std.specs.Prelude.{◌≡◌, ℕ, ◌+◌, ◌≤◌, [], length, IfOk, IfErr};
+ghost use Rattle.std.specs.Prelude.{◌≡◌, ℕ, ◌+◌, ◌<◌, ◌≤◌, min, [], length, IfOk, IfErr};
 ghost use Rattle.image_instr.specs.Insn.{index as index_bytes, insn_bytes};
 ghost use Rattle.infuse_link.specs.declared.stop.Stop.TheVariants.{Memory};
 ghost use Rattle.jvm_model.specs.Program.{Switch};
@@ -97,29 +97,27 @@ fn size(insn: NumberInsn<'_>, slots: &Slots) -> u64
     }
 }
 
-/// The sum of two lengths. Code of a class file is too short for a sum that passes, and no length of
-/// this kind can be told, so it is answered as want of memory.
-fn sum(bytes: u32, size: u64) -> Result<u32, Stop>
-    ensures value { IfOk result (λ total. total ≡ bytes + size) }
-    ensures memory { IfErr result (λ why. why ≡ Memory) }
+/// The sum of two lengths, or the greatest number of its type.
+fn sum(bytes: u32, size: u64) -> u32
+    ensures { result ≡ min (bytes + size) 4294967295 }
 {
-    match u64::from(bytes).checked_add(size) {
-        Some(total) if total <= u64::from(u32::MAX) => Ok(total as u32),
-        _ => Err(Stop::Memory),
-    }
+    u64::from(bytes)
+        .saturating_add(size)
+        .min(u64::from(u32::MAX)) as u32
 }
 
-/// The offsets of a body.
+/// The offsets of a body. What does not fit its type is the greatest number of it; code of a class file is too
+/// short for that.
 pub(crate) fn offsets_of(alloc: Global, slots: &Slots, body: &[Placed<'_>]) -> Result<Offsets, Stop>
-    ensures bytes { IfOk result (λ offsets. offsets.bytes ≡ sizes (slot_in slots.now) (body_meant body.now)) }
-    ensures places { IfOk result (λ offsets. (pc : ℕ) → place_in offsets pc ≡ offset_of (slot_in slots.now) (body_meant body.now) pc) }
+    ensures bytes { IfOk result (λ offsets. offsets.bytes ≡ min (sizes (slot_in slots.now) (body_meant body.now)) 4294967295) }
+    ensures places { IfOk result (λ offsets. sizes (slot_in slots.now) (body_meant body.now) < 4294967295 → (pc : ℕ) → place_in offsets pc ≡ offset_of (slot_in slots.now) (body_meant body.now) pc) }
     ensures memory { IfErr result (λ why. why ≡ Memory) }
 {
     let mut offsets = Vec::new(alloc);
     let mut bytes = 0;
     for x in body {
         fill(&mut offsets, x.0 as usize + 1, bytes)?;
-        bytes = sum(bytes, size(x.1, slots))?;
+        bytes = sum(bytes, size(x.1, slots));
     }
     Ok(Offsets { offsets, bytes })
 }

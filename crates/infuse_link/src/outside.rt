@@ -3,7 +3,7 @@
 ghost use Rattle.std.specs.Prelude.{◌≡◌, ◌⊎◌, Some, None, false, get_or, IfErr, OnOk};
 ghost use Rattle.jvm_model.specs.declared.refusal.Cause.TheVariants as cause;
 ghost use Rattle.class_code.specs.Code.{RiseFrom};
-ghost use Rattle.jvm_model.specs.Accepted.{unbuilt_at as unbuilt_at_of, FirstOf, NamesFirst, OutsideInsns, OutsideCode, OutsideMethod, OutsideClass};
+ghost use Rattle.jvm_model.specs.BuiltForm.{unbuilt_at as unbuilt_at_of, FirstOf, NamesFirst, OutsideInsns, OutsideCode, OutsideMethod, OutsideClass};
 ghost use Rattle.infuse_link.specs.Sets.{first_outside as first_outside_of};
 
 use crate::marks::has;

@@ -6,7 +6,7 @@ ghost use Rattle.jvm_model.specs.declared.refusal.Cause.TheVariants as cause;
 ghost use Rattle.jvm_model.specs.Phases.{saturated as saturated_of, first_refusal, total_bytes as total_bytes_of, too_many as too_many_of, size_refusal, refusal_of_file as refusal_of_file_of, refusal_of_reading as refusal_of_reading_of, reading_refusal, fault_of, refusal_of_insn as refusal_of_insn_of, refusal_of_code as refusal_of_code_of, method_refusal, class_refusal};
 ghost use Rattle.class_file.specs.Relation.{IsClassFile};
 ghost use Rattle.class_code.specs.declared.refusal.CodeRefusal.TheVariants.{Memory as NoCodeMemory};
-ghost use Rattle.infuse_link.specs.Sets.{AreRead};
+ghost use Rattle.infuse_link.specs.Sets.{AreRead, reading_said, testing_said, handlers_said};
 
 use class_code::{CodeRefusal, decode, handlers_fit};
 use class_file::{ClassFile, CodeAttr, Member, ReadRefusal, read_class};
@@ -97,15 +97,26 @@ fn refusal_of_reading(file: usize, size: usize, why: ReadRefusal) -> Refusal
     }
 }
 
+/// What reading a file of so many bytes answers, as the set says it.
+fn of_reading(
+    file: usize,
+    size: usize,
+    read: Result<ClassFile, ReadRefusal>,
+) -> Result<ClassFile, Refusal>
+    ensures { result ≡ reading_said file size read }
+{
+    match read {
+        Ok(class) => Ok(class),
+        Err(why) => Err(refusal_of_reading(file, size, why)),
+    }
+}
+
 /// Reads a file, which is told its place.
 fn read_file(alloc: Global, file: usize, bytes: &[u8]) -> Result<ClassFile, Refusal>
     ensures read { IfOk result (IsClassFile bytes.now) }
     ensures refused { IfErr result (λ why. (why.cause ≡ cause.Memory) ⊎ (reading_refusal file bytes.now ≡ Some why)) }
 {
-    match read_class(alloc, bytes) {
-        Ok(class) => Ok(class),
-        Err(why) => Err(refusal_of_reading(file, bytes.len(), why)),
-    }
+    of_reading(file, bytes.len(), read_class(alloc, bytes))
 }
 
 /// Reads each file.
@@ -126,6 +137,16 @@ pub(crate) fn read_files(alloc: Global, files: &[Vec<u8>]) -> Result<Vec<ClassFi
     Ok(classes)
 }
 
+/// Handlers fit, unless the one that starts at this pc does not.
+fn of_handlers(unfit: Option<u32>) -> Result<(), CodeRefusal>
+    ensures { result ≡ handlers_said unfit }
+{
+    match unfit {
+        Some(pc) => Err(CodeRefusal::BadCode { pc }),
+        None => Ok(()),
+    }
+}
+
 /// Tests that the code of a method is instructions, and that its handlers fit them.
 fn test_code(alloc: Global, code: &CodeAttr) -> Result<(), CodeRefusal>
     ensures fits { OnOk result (fault_of code.now ≡ None) }
@@ -135,10 +156,7 @@ fn test_code(alloc: Global, code: &CodeAttr) -> Result<(), CodeRefusal>
         return Err(CodeRefusal::Memory);
     };
     let list = decode(alloc, code.code.as_slice())?;
-    match handlers_fit(&list, code.handlers.as_slice(), length) {
-        Some(pc) => Err(CodeRefusal::BadCode { pc }),
-        None => Ok(()),
-    }
+    of_handlers(handlers_fit(&list, code.handlers.as_slice(), length))
 }
 
 /// A refusal at a place of a method.
@@ -167,6 +185,16 @@ fn refusal_of_code(file: usize, member: usize, why: CodeRefusal) -> Refusal
     }
 }
 
+/// What testing the code of a method answers, as the set says it.
+fn of_testing(file: usize, member: usize, tested: Result<(), CodeRefusal>) -> Result<(), Refusal>
+    ensures { result ≡ testing_said file member tested }
+{
+    match tested {
+        Ok(()) => Ok(()),
+        Err(why) => Err(refusal_of_code(file, member, why)),
+    }
+}
+
 /// Tests the code of a method, if it has code.
 fn test_method(alloc: Global, file: usize, member: usize, method: &Member) -> Result<(), Refusal>
     ensures fits { OnOk result (method_refusal file member method.now ≡ None) }
@@ -175,10 +203,7 @@ fn test_method(alloc: Global, file: usize, member: usize, method: &Member) -> Re
     let Some(code) = &method.code else {
         return Ok(());
     };
-    match test_code(alloc, code) {
-        Ok(()) => Ok(()),
-        Err(why) => Err(refusal_of_code(file, member, why)),
-    }
+    of_testing(file, member, test_code(alloc, code))
 }
 
 /// Tests the code of each method of a class.

@@ -17,8 +17,8 @@ use Rattle.class_code.specs.Code.{Insns, decoded, first_unfit, first_other}
 use Rattle.jvm_model.specs.declared.refusal.Refusal.{Refusal}
 use Rattle.jvm_model.specs.Body.{Body, families_of}
 use Rattle.jvm_model.specs.ProgramOf.{insns_in, body_of}
-use Rattle.jvm_model.specs.Phases.{first_refusal, most_files, most_bytes, total_bytes, too_many, size_refusal, unless_read, reading_refusal, record_in, fault_in, fault_of, refusal_of_code, method_refusal, class_refusal, code_refusal, early_refusal}
-use Rattle.jvm_model.specs.Accepted.{IsNumberFile}
+use Rattle.jvm_model.specs.Phases.{SetSize, Reading, MethodCode, first_refusal, most_files, most_bytes, total_bytes, too_many, size_refusal, unless_read, reading_refusal, record_in, fault_in, fault_of, refusal_of_code, method_refusal, class_refusal, code_refusal}
+use Rattle.jvm_model.specs.Linked.{IsNumberFile}
 
 -- ---- the size
 
@@ -68,15 +68,21 @@ no_code bytes file main code body is methods has handlers is_body =
 head_same : {x y : Member} → x ∷ [] ≡ y ∷ [] → x ≡ y
 head_same e = cc
 
-pub no_early : (bytes : List ℕ) (file : ClassFile) (code : CodeAttr) (body : Body) → IsNumberFile bytes file code body → early_refusal (bytes ∷ []) ≡ None
+-- a set of one such file passes the first phases
+pub record PassesEarly (files : List (List ℕ)) : Type 0 where
+  pub size : SetSize files None
+  pub reading : Reading files None
+  pub code : MethodCode files None
+
+pub no_early : (bytes : List ℕ) (file : ClassFile) (code : CodeAttr) (body : Body) → IsNumberFile bytes file code body → PassesEarly (bytes ∷ [])
 no_early bytes file code body is =
     let read = file_again bytes file is.class_file.class_file in
     let form = is.class_file.form in
     let mains : form.main ≡ is.main.main = head_same (sym form.methods ∙ is.main.methods) in
     let codes : form.is_main.body ≡ code = same_Some form.is_main.body code (sym form.is_main.code ∙ ap (λ (m : Member). m.code) mains ∙ is.main.is_code) in
     let handlers : code.handlers ≡ [] = ap (λ (c : CodeAttr). c.handlers) (sym codes) ∙ form.is_main.handlers in
-    let size = no_size bytes is.class_file.class_file.1.size in
-    let reading = no_reading bytes file read in
-    let coding = no_code bytes file is.main.main code body read is.main.methods is.main.is_code handlers is.main.is_body in
-    ap (λ (r : Option Refusal). option_or r (option_or (first_refusal reading_refusal 0 (bytes ∷ [])) (first_refusal code_refusal 0 (bytes ∷ [])))) size
-    ∙ ap (λ (r : Option Refusal). option_or r (first_refusal code_refusal 0 (bytes ∷ []))) reading ∙ coding
+    record {
+      size = no_size bytes is.class_file.class_file.1.size;
+      reading = no_reading bytes file read;
+      code = no_code bytes file is.main.main code body read is.main.methods is.main.is_code handlers is.main.is_body;
+    }

@@ -1,7 +1,14 @@
 pub mod CodeBody
-pub mod EarlyPhases
-pub mod OneOutside
-pub mod VerdictLaws
 pub mod Reading
 pub mod NumberSteps
 pub mod NumberRuns
+pub mod Decisions
+pub mod ReachedSets
+pub mod FormDecided
+pub mod FirstOutside
+pub mod LinkedSets
+pub mod PhaseLists
+pub mod VerdictLaws
+pub mod SetRuns
+pub mod EarlyPhases
+pub mod NumberSets

@@ -2,6 +2,7 @@
 use Rattle.std.proofs.Common.{◌≡◌, ℕ, ◌+◌, ◌<◌, zero, suc, true, leb, List, [], ◌∷◌, ◌++◌, length, Option, None, replicate, refl, sym, ap, subst, ◌∙◌, arith}
 use Rattle.std.proofs.lemmas.Bool.{false≢true, cond_both}
 use Rattle.std.proofs.lemmas.List.{length-replicate}
+use Rattle.dialogue.specs.Answers.{Answers}
 use Rattle.dialogue.specs.Dialogue.{Item}
 use Rattle.dialogue.specs.Limits.{Limits}
 use Rattle.dialogue.specs.Outcome.{Outcome}
@@ -15,7 +16,7 @@ use Rattle.jvm_model.specs.Program.{Family, Placed, Program}
 use Rattle.jvm_model.specs.Body.{Body, placed_in}
 use Rattle.jvm_model.specs.ProgramOf.{first_class, program_of}
 use Rattle.jvm_model.specs.NumberForm.{HasNumberForm, HasNumberMain}
-use Rattle.jvm_model.specs.Accepted.{IsNumberFile}
+use Rattle.jvm_model.specs.Linked.{IsNumberFile}
 use Rattle.jvm_model.specs.Machine.{Ending, StackWanted, step, step_frames, step_placed, machine, start_of, LimitedSo}
 use Rattle.jvm_model.proofs.CodeBody.{IsCodeBody, code-body, family-there, locals-there}
 use Rattle.jvm_model.proofs.Reading.{IsRead, read-from_start, read-placed}
@@ -59,7 +60,7 @@ module _ (program : Program) (budget : ℕ) (code : CodeAttr) (body : Body) (sta
           let fewer = goes.less in
           step-more said state (Running (said ++ items) next) (ap (after_step said state) is) (more goes.to (said ++ items) next goes.good (omega (arith, fewer, less)))
       by_step (Ends ending) is ends more =
-          step-more said state (Over said state ending) (ap (after_step said state) is) (record { ending = ending; dialogue = said; left = state.input }, record { steps = 0; last = state; over = refl; left = refl })
+          step-more said state (Over said state ending) (ap (after_step said state) is) (record { ending = ending; dialogue = said; left = state.answers }, record { steps = 0; last = state; over = refl; left = refl })
       by_step Stuck is none more = absurd none
 
 -- ---- the start
@@ -83,16 +84,16 @@ start-good code [] form is locals same state frames = absurd form.ends
 start-good code ((pc, family) ∷ rest) form is locals same state frames =
     start-at code ((pc, family) ∷ rest) pc family rest (read-from_start code ((pc, family) ∷ rest) form is) is.first locals same state frames
 
-pub number_main_ends : (file : ClassFile) (code : CodeAttr) (body : Body) → HasNumberMain file code body → (cells : ℕ) (limits : Limits) (input : List ℕ) → (outcome : Outcome Ending) × LimitedSo (program_of file) cells limits input outcome
-number_main_ends file code body main cells limits input =
-    let start = start_of (program_of file) input in
+pub number_main_ends : (file : ClassFile) (code : CodeAttr) (body : Body) → HasNumberMain file code body → (cells : ℕ) (limits : Limits) (answers : Answers) → (outcome : Outcome Ending) × LimitedSo (program_of file) cells limits answers outcome
+number_main_ends file code body main cells limits answers =
+    let start = start_of (program_of file) answers in
     let is = code-body file.pool code body main.is_body in
     cond_both (leb cells limits.stack) (Running [] start) (Over [] start (StackWanted cells 0)) (SomeEnd (program_of file) limits.ticks)
     (λ fits.
     good-ends (program_of file) limits.ticks code body (read-from_start code body main.form is) (family-there file code body main)
     (suc (left_at limits.ticks (length code.code) 0 0)) 0 [] start (start-good code body main.form is (program_of file).main_locals (locals-there file code body main) start refl) (omega arith))
-    (λ wanted. (record { ending = StackWanted cells 0; dialogue = []; left = input }, record { steps = 0; last = start; over = refl; left = refl }))
+    (λ wanted. (record { ending = StackWanted cells 0; dialogue = []; left = answers }, record { steps = 0; last = start; over = refl; left = refl }))
 
 -- the limited run of a class file of the number form ends
-pub number_code_ends : (bytes : List ℕ) (file : ClassFile) (code : CodeAttr) (body : Body) → IsNumberFile bytes file code body → (cells : ℕ) (limits : Limits) (input : List ℕ) → (outcome : Outcome Ending) × LimitedSo (program_of file) cells limits input outcome
+pub number_code_ends : (bytes : List ℕ) (file : ClassFile) (code : CodeAttr) (body : Body) → IsNumberFile bytes file code body → (cells : ℕ) (limits : Limits) (answers : Answers) → (outcome : Outcome Ending) × LimitedSo (program_of file) cells limits answers outcome
 number_code_ends bytes file code body is = number_main_ends file code body is.main

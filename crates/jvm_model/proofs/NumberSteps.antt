@@ -63,16 +63,16 @@ pub record IsGood (code : CodeAttr) (body : Body) (pc : ℕ) (state : State) : T
 -- the state with main at another place and so many ticks
 abbrev pub moved : State → ℕ → List (Option Value) → List ℤ → ℕ → State
 moved state pc locals numbers ticks =
-    record { frames = frame_at pc locals numbers ∷ []; objects = state.objects; statics = state.statics; input = state.input; ticks = ticks }
+    record { frames = frame_at pc locals numbers ∷ []; objects = state.objects; statics = state.statics; answers = state.answers; ticks = ticks }
 
 -- the state after a read
 abbrev after_read : State → Frame → ℕ → State
 after_read state frame next =
     record {
-      frames = record frame { pc = next; operands = Whole (next_byte state.input) ∷ frame.operands } ∷ [];
+      frames = record frame { pc = next; operands = Whole (next_byte state.answers) ∷ frame.operands } ∷ [];
       objects = state.objects;
       statics = state.statics;
-      input = after_byte state.input;
+      answers = after_byte state.answers;
       ticks = state.ticks + 1;
     }
 
@@ -344,7 +344,7 @@ module _ (program : Program) (budget : ℕ) (code : CodeAttr) (body : Body) (sta
   read-well : (numbers : List ℤ) → IsAt code body pc (CallStatic (OfLibrary ReadByte)) rest locals numbers → Well (step_family program budget state (frame_at pc locals numbers) [] next (CallStatic (OfLibrary ReadByte)))
   read-well numbers here =
       cond_both (leb (state.ticks + 1) budget) (Goes (Get ∷ []) (after_read state (frame_at pc locals numbers) next)) (Ends Spent) Well
-      (λ room. called (CallStatic (OfLibrary ReadByte)) numbers here refl refl (after_read state (frame_at pc locals numbers) next) (next_byte state.input ∷ numbers) refl refl (omega arith) (leb-true (state.ticks + 1) budget room))
+      (λ room. called (CallStatic (OfLibrary ReadByte)) numbers here refl refl (after_read state (frame_at pc locals numbers) next) (next_byte state.answers ∷ numbers) refl refl (omega arith) (leb-true (state.ticks + 1) budget room))
       (λ none. tt)
 
   -- ---- all families

@@ -9,4 +9,10 @@ pub mod FrameCells
 pub mod Expansion
 pub mod ImageOf
 pub mod Phases
-pub mod Accepted
+pub mod Linked
+pub mod BuiltForm
+pub mod FrameSize
+pub mod CodeLength
+pub mod Verdict
+pub mod SetRun
+pub mod SetImage

@@ -10,6 +10,7 @@ use Rattle.cell_num.specs.declared.conditions.Cond.{Cond}
 use Rattle.cell_num.specs.Arithmetic.{applied}
 use Rattle.cell_num.specs.Conditions.{is_met}
 use Rattle.cell_num.specs.Conversions.{converted}
+use Rattle.dialogue.specs.Answers.{Answers}
 use Rattle.dialogue.specs.Dialogue.{Get, putting}
 use Rattle.dialogue.specs.Limits.{Limits}
 use Rattle.dialogue.specs.Natives.{low_byte, next_byte, after_byte}
@@ -43,7 +44,7 @@ goes_on state frame others next operands = Goes [] (with_frame state (record fra
 
 -- one more tick, if the budget allows it
 abbrev pub ticked : State → State
-ticked state = record { frames = state.frames; objects = state.objects; statics = state.statics; input = state.input; ticks = state.ticks + 1 }
+ticked state = record { frames = state.frames; objects = state.objects; statics = state.statics; answers = state.answers; ticks = state.ticks + 1 }
 
 abbrev pub within_budget : ℕ → State → Step State Ending → Step State Ending
 within_budget budget state step = if nat_le (state.ticks + 1) budget then step else Ends Spent
@@ -141,16 +142,16 @@ step_show budget state frame others next bytes (Whole number ∷ operands) =
     within_budget budget state (Goes (putting (bytes number)) (with_frame (ticked state) (record frame { pc = next; operands = operands }) others))
 step_show budget state frame others next bytes _ = Stuck
 
--- read()I gives the value of the next byte of the input, or -1 at its end
+-- read()I gives the value of the byte that is answered, or -1 at the end
 abbrev pub step_read : ℕ → State → Frame → List Frame → ℕ → Step State Ending
 step_read budget state frame others next =
     within_budget budget state
     (Goes (Get ∷ [])
     (record {
-      frames = record frame { pc = next; operands = Whole (next_byte state.input) ∷ frame.operands } ∷ others;
+      frames = record frame { pc = next; operands = Whole (next_byte state.answers) ∷ frame.operands } ∷ others;
       objects = state.objects;
       statics = state.statics;
-      input = after_byte state.input;
+      answers = after_byte state.answers;
       ticks = state.ticks + 1;
     }))
 
@@ -207,30 +208,30 @@ step program budget state = step_frames program budget state state.frames
 
 -- the machine of a program with a budget of ticks
 abbrev pub machine : Program → ℕ → run.Machine State Ending
-machine program budget = record { step = step program budget; left = λ state. state.input }
+machine program budget = record { step = step program budget; left = λ state. state.answers }
 
--- main's frame with no local set, no objects, the statics as they are set, all of the input, no ticks
-abbrev pub start_of : Program → List ℕ → State
-start_of program input =
+-- main's frame with no local set, no objects, the statics as they are set, all of the answers, no ticks
+abbrev pub start_of : Program → Answers → State
+start_of program answers =
     record {
       frames = record { class = program.main_class; method = program.main_method; pc = 0; locals = replicate program.main_locals None; operands = [] } ∷ [];
       objects = [];
       statics = program.statics;
-      input = input;
+      answers = answers;
       ticks = 0;
     }
 
--- the run of the program on this input and budget ends so
-abbrev pub EndsSo : Program → ℕ → List ℕ → Outcome Ending → Type 0
-EndsSo program budget input outcome = run.EndsSo (machine program budget) (Running [] (start_of program input)) outcome
+-- the run of the program on these answers and this budget ends so
+abbrev pub EndsSo : Program → ℕ → Answers → Outcome Ending → Type 0
+EndsSo program budget answers outcome = run.EndsSo (machine program budget) (Running [] (start_of program answers)) outcome
 
 -- ---- the limited run
 
 -- main's frame, of so many cells, is tested first, with no cell in use
-abbrev pub start_within : Program → ℕ → Limits → List ℕ → Progress State Ending
-start_within program cells limits input =
-    if nat_le cells limits.stack then Running [] (start_of program input) else Over [] (start_of program input) (StackWanted cells 0)
+abbrev pub start_within : Program → ℕ → Limits → Answers → Progress State Ending
+start_within program cells limits answers =
+    if nat_le cells limits.stack then Running [] (start_of program answers) else Over [] (start_of program answers) (StackWanted cells 0)
 
--- the limited run of the program, of which main's frame has so many cells, ends so on this input
-abbrev pub LimitedSo : Program → ℕ → Limits → List ℕ → Outcome Ending → Type 0
-LimitedSo program cells limits input outcome = run.EndsSo (machine program limits.ticks) (start_within program cells limits input) outcome
+-- the limited run of the program, of which main's frame has so many cells, ends so on these answers
+abbrev pub LimitedSo : Program → ℕ → Limits → Answers → Outcome Ending → Type 0
+LimitedSo program cells limits answers outcome = run.EndsSo (machine program limits.ticks) (start_within program cells limits answers) outcome

@@ -1,7 +1,7 @@
 -- The first phases of the verdict, one after the other: how large the set is, the reading of each file,
 -- and the code of each method. Each gives the first refusal in the order of files, methods and pcs, or
 -- none.
-use Rattle.std.specs.Prelude.{ℕ, suc, nat_lt, nat_le, if◌then◌else◌, List, [], ◌∷◌, length, map, Option, Some, None, option_map, option_and_then, Result, Ok, Err}
+use Rattle.std.specs.Prelude.{◌≡◌, ℕ, suc, nat_lt, nat_le, if◌then◌else◌, List, [], ◌∷◌, length, map, Option, Some, None, option_map, option_and_then, Result, Ok, Err}
 use Rattle.std.specs.Option.{option_or}
 use Rattle.std.specs.List.{sum}
 use Rattle.class_file.specs.declared.record.ClassFile.{ClassFile}
@@ -114,7 +114,11 @@ code_refusal file bytes = option_and_then (class_refusal file) (record_in (class
 
 -- ---- the phases
 
--- the first refusal for the size of the set, for a file, or for a method's code
-abbrev pub early_refusal : List (List ℕ) → Option Refusal
-early_refusal files =
-    option_or (size_refusal files) (option_or (first_refusal reading_refusal 0 files) (first_refusal code_refusal 0 files))
+abbrev pub SetSize : List (List ℕ) → Option Refusal → Type 0
+SetSize files found = size_refusal files ≡ found
+
+abbrev pub Reading : List (List ℕ) → Option Refusal → Type 0
+Reading files found = first_refusal reading_refusal 0 files ≡ found
+
+abbrev pub MethodCode : List (List ℕ) → Option Refusal → Type 0
+MethodCode files found = first_refusal code_refusal 0 files ≡ found

@@ -1,5 +1,6 @@
 -- A state of the typed machine (JVMS 2.5, 2.6): values know what they are, and objects do not move.
 use Rattle.std.specs.Prelude.{ℕ, ℤ, List, Option}
+use Rattle.dialogue.specs.Answers.{Answers}
 
 -- a whole number of 32 bits, null, or the name of an object
 pub data Value : Type 0 where
@@ -37,11 +38,11 @@ pub record Frame : Type 0 where
   pub locals : List (Option Value)
   pub operands : List Value
 
--- the frames, the youngest first; the objects by their names 0, 1, 2 and so on; the statics; the input
--- that is still to be read; and the ticks that were used
+-- the frames, the youngest first; the objects by their names 0, 1, 2 and so on; the statics; the
+-- answers to the gets that are still to come; and the ticks that were used
 pub record State : Type 0 where
   pub frames : List Frame
   pub objects : List Object
   pub statics : List (FieldName × Value)
-  pub input : List ℕ
+  pub answers : Answers
   pub ticks : ℕ

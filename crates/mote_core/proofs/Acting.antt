@@ -1,23 +1,25 @@
 -- Turns that are done over a console: what follows of them in the split machine.
-use Rattle.std.proofs.Common.{◌≡◌, ℕ, ℤ, ◌+◌, ◌<◌, ◌≤◌, Bool, true, false, List, [], ◌∷◌, ◌++◌, Option, Some, Result, Ok, Err, refl, sym, ap, subst, ◌∙◌, arith, rules, ◌⊎◌, inl, inr}
-use Rattle.std.specs.Prelude.{nat_le, nat_lt, option_map}
-use Rattle.dialogue.specs.Dialogue.{Item, Get, putting}
+use Rattle.std.proofs.Common.{◌≡◌, ℕ, ℤ, ◌+◌, ◌<◌, ◌≤◌, true, false, List, [], ◌∷◌, Option, Result, Ok, Err, refl, sym, ap, subst, ◌∙◌, arith, rules, inl, inr}
+use Rattle.std.specs.Prelude.{nat_le, nat_lt}
+use Rattle.dialogue.specs.Answers.{Answers, MayGive}
+use Rattle.dialogue.specs.Dialogue.{Item, Get, putting, gets, gets-putting}
 use Rattle.dialogue.specs.Limits.{Limits}
 use Rattle.dialogue.specs.Natives.{next_byte, after_byte}
-use Rattle.dialogue.specs.Run.{Step, Goes, Ends, Stuck}
+use Rattle.dialogue.specs.Run.{Step, Goes, Ends}
 use Rattle.cell_num.specs.Cells.{low_cell, high_cell}
 use Rattle.host_face.specs.Talk.{Talked, BrokeOff}
-use Rattle.host_face.proofs.TalkLemmas.{Talked-nothing}
+use Rattle.host_face.proofs.TalkLemmas.{Talked-nothing, same-without}
 use Rattle.mote_model.specs.declared.ending.Ending.{Ending}
 use Rattle.mote_model.specs.declared.ending.Ending.TheVariants.{Done, Uncaught, Spent, ConsoleFault}
 use Rattle.mote_model.specs.State.{Frame, State}
 use Rattle.mote_model.specs.Numbers.{with_number}
-use Rattle.mote_model.specs.Machine.{with_frame, at_cells, ticked, within_budget, jumps}
+use Rattle.mote_model.specs.Machine.{with_frame, at_cells, ticked, within_budget}
 use Rattle.mote_core.specs.declared.turn.Turn.{Turn}
-use Rattle.mote_core.specs.declared.turn.Turn.TheVariants.{Next, Jump, Throw, Return, Write, Read, Print}
-use Rattle.mote_core.specs.Turns.{AreCells, meaning, with_top}
+use Rattle.mote_core.specs.declared.turn.Turn.TheVariants.{Next, Jump, Throw, Return, Read}
+use Rattle.mote_core.specs.Turns.{meaning, with_top}
 use Rattle.mote_core.specs.Good.{IsStepEnding}
-use Rattle.mote_core.specs.Acts.{Place, IsPlaceOf, Tells, TellsNow, IsJump, IsRead, with_input, Went, Stopped, Shows, Acted, Acts}
+use Rattle.mote_core.specs.Acts.{Place, IsPlaceOf, IsJump, IsRead, with_answers, Shows, Acts}
+use Rattle.mote_core.proofs.Giving.{some_answers, may-some}
 use Rattle.mote_core.proofs.Tops.{pushed}
 
 le_true : (a b : ℕ) → a ≤ b → nat_le a b ≡ true
@@ -41,71 +43,76 @@ pub budget-there : (limits : Limits) (state : State) (step : Step State Ending) 
 budget-there limits state step left after some ticks =
     rw (le_true (state.ticks + 1) limits.ticks (omega arith)) refl
 
+-- after a read: a tick, and the next frame
+abbrev read_into : State → Frame → Answers → State
+read_into state frame answers = record (ticked state) { frames = frame ∷ []; answers = answers }
+
 module _ {C : Type 0} (left shown noted : C → Option (List ℕ)) (faults : C → ℕ) (room : C → Option ℕ) where
   abbrev ActsOn : Turn → ℕ → Place → (old new : C) → Place → Result (Unit {0}) Ending → Type 0
   ActsOn = Acts left shown noted faults room
 
+  -- the turn from the state, whatever is still to come
+  abbrev ShowsAt : Limits → State → Frame → ℕ → Turn → (locals operands : List ℕ) → (old new : C) → Place → Result (Unit {0}) Ending → Type 0
+  ShowsAt limits state frame next turn locals operands old new after result =
+      Shows left shown noted faults room limits old new after (λ answers. meaning limits (with_answers state answers) frame next turn locals operands) result
+
   -- ---- one state
 
-  ended : (limits : Limits) (state : State) (frame : Frame) (next : ℕ) (turn : Turn) (locals operands : List ℕ) (old : C) (after : Place) (ending : Ending)
-      → meaning limits state frame next turn locals operands ≡ Ends ending → IsStepEnding ending → Tells (left old) state.input
-      → Acted left shown noted faults room limits state frame next turn locals operands old old after (Err ending)
-  ended limits state frame next turn locals operands old after ending e known tells =
-      record {
-        input = state.input;
-        tells = tells;
-        shows = subst (λ step. Shows left shown noted faults room limits old old after step (Err ending)) (sym e) (record { same = refl; known = known; quiet = refl });
-      }
+  ended : (limits : Limits) (state : State) (frame : Frame) (next : ℕ) (turn : Turn) (locals operands : List ℕ) (old : C) (place : Place) (ending : Ending)
+      → ((answers : Answers) → meaning limits (with_answers state answers) frame next turn locals operands ≡ Ends ending) → IsStepEnding ending
+      → ShowsAt limits state frame next turn locals operands old old place (Err ending)
+  ended limits state frame next turn locals operands old place ending same known =
+      let answers = some_answers (left old) in
+      inl (record { answers = answers; may = may-some (left old); ends = same answers; known = known; quiet = refl })
 
   went : (limits : Limits) (state : State) (frame : Frame) (next : ℕ) (turn : Turn) (locals operands : List ℕ) (old new : C) (after : Place) (items : List Item) (to : State)
-      → meaning limits state frame next turn locals operands ≡ Goes items to → Tells (left old) state.input
-      → Talked shown noted faults room old new items → IsPlaceOf limits after to → left new ≡ left old → to.input ≡ state.input
-      → Acted left shown noted faults room limits state frame next turn locals operands old new after (Ok tt)
-  went limits state frame next turn locals operands old new after items to e tells talked is same_left same_input =
+      → ((answers : Answers) → meaning limits (with_answers state answers) frame next turn locals operands ≡ Goes items (with_answers to answers))
+      → Talked shown noted faults room old new items → IsPlaceOf limits after to → left new ≡ left old → gets items ≡ 0
+      → ShowsAt limits state frame next turn locals operands old new after (Ok tt)
+  went limits state frame next turn locals operands old new after items to same talked is same_left none =
       record {
-        input = state.input;
-        tells = tells;
-        shows = subst (λ step. Shows left shown noted faults room limits old new after step (Ok tt)) (sym e)
-            (record { talked = talked; is = is; tells = same_left ∙ tells ∙ ap (λ (input : List ℕ). option_map (λ _. input) (left old)) (sym same_input) });
+        items = items;
+        next = to;
+        talked = talked;
+        is = is;
+        goes = λ others may. record { answers = others; may = subst (λ (o : Option (List ℕ)). MayGive o others) same_left may; goes = same others };
+        rest = same-without items (left old) (left new) none same_left;
       }
 
-  broke : (limits : Limits) (state : State) (frame : Frame) (next : ℕ) (turn : Turn) (locals operands : List ℕ) (old new : C) (after : Place) (items : List Item) (to : State)
-      → meaning limits state frame next turn locals operands ≡ Goes items to → Tells (left old) state.input
-      → BrokeOff shown noted faults room old new items
-      → Acted left shown noted faults room limits state frame next turn locals operands old new after (Err ConsoleFault)
-  broke limits state frame next turn locals operands old new after items to e tells b =
-      record {
-        input = state.input;
-        tells = tells;
-        shows = subst (λ step. Shows left shown noted faults room limits old new after step (Err ConsoleFault)) (sym e) (refl, b);
-      }
+  broke : (limits : Limits) (state : State) (frame : Frame) (next : ℕ) (turn : Turn) (locals operands : List ℕ) (old new : C) (place : Place) (items : List Item) (to : Answers → State)
+      → ((answers : Answers) → meaning limits (with_answers state answers) frame next turn locals operands ≡ Goes items (to answers))
+      → BrokeOff left shown noted faults room old new items
+      → ShowsAt limits state frame next turn locals operands old new place (Err ConsoleFault)
+  broke limits state frame next turn locals operands old new place items to same b =
+      let answers = some_answers (left old) in
+      inr (record { items = items; next = to answers; answers = answers; may = may-some (left old); goes = same answers; broke = b; fault = refl })
 
   -- ---- turns without a console
 
   pub acts-next : (next : ℕ) (before after : Place) (old : C) → after.pc ≡ next → after.cells ≡ before.cells → after.left ≡ before.left → ActsOn Next next before old old after (Ok tt)
-  acts-next next before after old pc cells same limits state frame locals operands are at ticks tells =
-      went limits state frame next Next locals operands old old after [] (with_frame state (at_cells frame next locals operands) []) refl tells (Talked-nothing shown noted faults room old)
+  acts-next next before after old pc cells same limits state frame locals operands are at ticks =
+      went limits state frame next Next locals operands old old after [] (with_frame state (at_cells frame next locals operands) []) (λ answers. refl) (Talked-nothing shown noted faults room old)
       (record { frame = at_cells frame next locals operands; frames = refl; pc = pc; cells = cells ∙ are; left = omega (arith, same, ticks) }) refl refl
 
-  pub acts-throw : (class next : ℕ) → class ≡ 4 → (before after : Place) (old : C) → ActsOn (Throw class) next before old old after (Err (Uncaught class))
-  acts-throw class next is before after old limits state frame locals operands are at ticks tells =
-      ended limits state frame next (Throw class) locals operands old after (Uncaught class) refl is tells
+  pub acts-throw : (class next : ℕ) → class ≡ 4 → (before : Place) (old : C) → ActsOn (Throw class) next before old old before (Err (Uncaught class))
+  acts-throw class next is before old limits state frame locals operands are at ticks =
+      ended limits state frame next (Throw class) locals operands old before (Uncaught class) (λ answers. refl) is
 
-  pub acts-return : (next : ℕ) (before after : Place) (old : C) → ActsOn Return next before old old after (Err Done)
-  acts-return next before after old limits state frame locals operands are at ticks tells =
-      ended limits state frame next Return locals operands old after Done refl tt tells
+  pub acts-return : (next : ℕ) (before : Place) (old : C) → ActsOn Return next before old old before (Err Done)
+  acts-return next before old limits state frame locals operands are at ticks =
+      ended limits state frame next Return locals operands old before Done (λ answers. refl) tt
 
   pub acts-jump : (target next : ℕ) (before after : Place) (old : C) (result : Result (Unit {0}) Ending) → IsJump before.pc target before.left after.pc after.left result → after.cells ≡ before.cells → ActsOn (Jump target) next before old old after result
-  acts-jump target next before after old (Ok ok) (pc, inl (forward, same)) cells limits state frame locals operands are at ticks tells =
+  acts-jump target next before after old (Ok ok) (pc, inl (forward, same)) cells limits state frame locals operands are at ticks =
       went limits state frame next (Jump target) locals operands old old after [] (with_frame state (at_cells frame target locals operands) [])
-      (rw (lt_true frame.pc target (omega (arith, at, forward))) refl) tells (Talked-nothing shown noted faults room old)
+      (λ answers. rw (lt_true frame.pc target (omega (arith, at, forward))) refl) (Talked-nothing shown noted faults room old)
       (record { frame = at_cells frame target locals operands; frames = refl; pc = pc; cells = cells ∙ are; left = omega (arith, same, ticks) }) refl refl
-  acts-jump target next before after old (Ok ok) (pc, inr (back, tick)) cells limits state frame locals operands are at ticks tells =
+  acts-jump target next before after old (Ok ok) (pc, inr (back, tick)) cells limits state frame locals operands are at ticks =
       went limits state frame next (Jump target) locals operands old old after [] (with_frame (ticked state) (at_cells frame target locals operands) [])
-      (rw (lt_false frame.pc target (omega (arith, at, back))) (budget-there limits state _ before.left after.left tick ticks)) tells (Talked-nothing shown noted faults room old)
+      (λ answers. rw (lt_false frame.pc target (omega (arith, at, back))) (budget-there limits (with_answers state answers) _ before.left after.left tick ticks)) (Talked-nothing shown noted faults room old)
       (record { frame = at_cells frame target locals operands; frames = refl; pc = pc; cells = cells ∙ are; left = omega (arith, tick, ticks) }) refl refl
-  acts-jump target next before after old (Err ending) (is, (back, none)) cells limits state frame locals operands are at ticks tells =
-      rw is (ended limits state frame next (Jump target) locals operands old after Spent (rw (lt_false frame.pc target (omega (arith, at, back))) (budget-spent limits state _ before.left none ticks)) tt tells)
+  acts-jump target next before after old (Err ending) (is, (back, none)) cells limits state frame locals operands are at ticks =
+      rw is (ended limits state frame next (Jump target) locals operands old after Spent (λ answers. rw (lt_false frame.pc target (omega (arith, at, back))) (budget-spent limits (with_answers state answers) _ before.left none ticks)) tt)
 
   -- ---- natives
 
@@ -115,51 +122,58 @@ module _ {C : Type 0} (left shown noted : C → Option (List ℕ)) (faults : C �
       (limits : Limits) (state : State) (frame : Frame) (locals operands : List ℕ)
       → meaning limits state frame next turn locals operands ≡ within_budget limits state (Goes (putting bytes) (with_frame (ticked state) (at_cells frame next locals operands) []))
 
-  pub acts-show-spent : (turn : Turn) (bytes : List ℕ) (next : ℕ) → ShowsBytes turn bytes next → (before after : Place) (old : C) → before.left ≡ 0 → ActsOn turn next before old old after (Err Spent)
-  acts-show-spent turn bytes next is before after old none limits state frame locals operands are at ticks tells =
-      ended limits state frame next turn locals operands old after Spent (is limits state frame locals operands ∙ budget-spent limits state _ before.left none ticks) tt tells
+  pub acts-show-spent : (turn : Turn) (bytes : List ℕ) (next : ℕ) → ShowsBytes turn bytes next → (before : Place) (old : C) → before.left ≡ 0 → ActsOn turn next before old old before (Err Spent)
+  acts-show-spent turn bytes next is before old none limits state frame locals operands are at ticks =
+      ended limits state frame next turn locals operands old before Spent (λ answers. is limits (with_answers state answers) frame locals operands ∙ budget-spent limits (with_answers state answers) _ before.left none ticks) tt
 
   pub acts-show : (turn : Turn) (bytes : List ℕ) (next : ℕ) → ShowsBytes turn bytes next → (before after : Place) (old new : C)
       → before.left ≡ after.left + 1 → after.pc ≡ next → after.cells ≡ before.cells → Talked shown noted faults room old new (putting bytes) → left new ≡ left old
       → ActsOn turn next before old new after (Ok tt)
-  acts-show turn bytes next is before after old new tick pc cells talked same_left limits state frame locals operands are at ticks tells =
+  acts-show turn bytes next is before after old new tick pc cells talked same_left limits state frame locals operands are at ticks =
       went limits state frame next turn locals operands old new after (putting bytes) (with_frame (ticked state) (at_cells frame next locals operands) [])
-      (is limits state frame locals operands ∙ budget-there limits state _ before.left after.left tick ticks) tells talked
-      (record { frame = at_cells frame next locals operands; frames = refl; pc = pc; cells = cells ∙ are; left = omega (arith, tick, ticks) }) same_left refl
+      (λ answers. is limits (with_answers state answers) frame locals operands ∙ budget-there limits (with_answers state answers) _ before.left after.left tick ticks) talked
+      (record { frame = at_cells frame next locals operands; frames = refl; pc = pc; cells = cells ∙ are; left = omega (arith, tick, ticks) }) same_left (gets-putting bytes)
 
-  pub acts-show-broke : (turn : Turn) (bytes : List ℕ) (next : ℕ) → ShowsBytes turn bytes next → (before after : Place) (old new : C)
-      → before.left ≡ after.left + 1 → BrokeOff shown noted faults room old new (putting bytes) → ActsOn turn next before old new after (Err ConsoleFault)
-  acts-show-broke turn bytes next is before after old new tick b limits state frame locals operands are at ticks tells =
-      broke limits state frame next turn locals operands old new after (putting bytes) (with_frame (ticked state) (at_cells frame next locals operands) [])
-      (is limits state frame locals operands ∙ budget-there limits state _ before.left after.left tick ticks) tells b
+  pub acts-show-broke : (turn : Turn) (bytes : List ℕ) (next : ℕ) → ShowsBytes turn bytes next → (before : Place) (left_after : ℕ) (old new : C)
+      → before.left ≡ left_after + 1 → BrokeOff left shown noted faults room old new (putting bytes) → ActsOn turn next before old new before (Err ConsoleFault)
+  acts-show-broke turn bytes next is before left_after old new tick b limits state frame locals operands are at ticks =
+      broke limits state frame next turn locals operands old new before (putting bytes) (λ answers. with_frame (ticked (with_answers state answers)) (at_cells frame next locals operands) [])
+      (λ answers. is limits (with_answers state answers) frame locals operands ∙ budget-there limits (with_answers state answers) _ before.left left_after tick ticks) b
 
-  pub acts-read-spent : (next : ℕ) (before after : Place) (old : C) → before.left ≡ 0 → ActsOn Read next before old old after (Err Spent)
-  acts-read-spent next before after old none limits state frame locals operands are at ticks tells =
-      ended limits state frame next Read locals operands old after Spent (budget-spent limits state _ before.left none ticks) tt tells
+  pub acts-read-spent : (next : ℕ) (before : Place) (old : C) → before.left ≡ 0 → ActsOn Read next before old old before (Err Spent)
+  acts-read-spent next before old none limits state frame locals operands are at ticks =
+      ended limits state frame next Read locals operands old before Spent (λ answers. budget-spent limits (with_answers state answers) _ before.left none ticks) tt
 
-  pub acts-read-broke : (next : ℕ) (before after : Place) (old new : C)
-      → before.left ≡ after.left + 1 → BrokeOff shown noted faults room old new (Get ∷ []) → ActsOn Read next before old new after (Err ConsoleFault)
-  acts-read-broke next before after old new tick b limits state frame locals operands are at ticks tells =
-      broke limits state frame next Read locals operands old new after (Get ∷ []) _ (budget-there limits state _ before.left after.left tick ticks) tells b
+  pub acts-read-broke : (next : ℕ) (before : Place) (left_after : ℕ) (old new : C)
+      → before.left ≡ left_after + 1 → BrokeOff left shown noted faults room old new (Get ∷ []) → ActsOn Read next before old new before (Err ConsoleFault)
+  acts-read-broke next before left_after old new tick b limits state frame locals operands are at ticks =
+      broke limits state frame next Read locals operands old new before (Get ∷ []) (λ answers. read_into (with_answers state answers) (at_cells frame next locals (with_number (next_byte answers) operands)) (after_byte answers))
+      (λ answers. budget-there limits (with_answers state answers) _ before.left left_after tick ticks) b
 
   pub acts-read : (next : ℕ) (before after : Place) (old new : C) (number : ℤ)
       → before.left ≡ after.left + 1 → after.pc ≡ next → after.cells ≡ with_top before.cells number
       → IsRead (left old) (left new) number → Talked shown noted faults room old new (Get ∷ []) → ActsOn Read next before old new after (Ok tt)
-  acts-read next before after old new number tick pc cells read talked limits state frame locals operands are at ticks tells =
-      let value = next_byte read.input in
+  acts-read next before after old new number tick pc cells read talked limits state frame locals operands are at ticks =
+      let pushed_to = λ (value : ℤ). at_cells frame next locals (with_number value operands) in
       record {
-        input = read.input;
-        tells = read.tells;
-        shows = subst (λ step. Shows left shown noted faults room limits old new after step (Ok tt)) (sym (budget-there limits (with_input state read.input) _ before.left after.left tick ticks))
-            (record {
-              talked = talked;
-              is = record {
-                frame = at_cells frame next locals (with_number value operands);
-                frames = refl;
-                pc = pc;
-                cells = pushed before.cells after.cells locals operands (high_cell value ∷ low_cell value ∷ []) are (cells ∙ ap (with_top before.cells) read.value);
-                left = omega (arith, tick, ticks);
-              };
-              tells = read.now;
-            });
+        items = Get ∷ [];
+        next = read_into state (pushed_to number) [];
+        talked = talked;
+        is = record {
+          frame = pushed_to number;
+          frames = refl;
+          pc = pc;
+          cells = pushed before.cells after.cells locals operands (high_cell number ∷ low_cell number ∷ []) are cells;
+          left = omega (arith, tick, ticks);
+        };
+        goes = λ others may.
+            let gave = read.gave others may in
+            record {
+              answers = gave.answers;
+              may = gave.may;
+              goes = budget-there limits (with_answers state gave.answers) _ before.left after.left tick ticks
+                  ∙ ap (λ (value : ℤ). Goes (Get ∷ []) (read_into state (pushed_to value) (after_byte gave.answers))) (sym gave.value)
+                  ∙ ap (λ (a : Answers). Goes (Get ∷ []) (read_into state (pushed_to number) a)) (sym gave.others_are);
+            };
+        rest = read.rest;
       }

@@ -1,5 +1,5 @@
 -- The same for each instruction that can run, whatever its kind or width.
-use Rattle.std.proofs.Common.{◌≡◌, ℕ, ℤ, pos, ◌-◌, Bool, cond, List, [], ◌∷◌, ◌++◌, length, take, drop, Option, ◌∙◌, arith}
+use Rattle.std.proofs.Common.{◌≡◌, ℕ, ℤ, pos, Bool, cond, List, [], ◌∷◌, ◌++◌}
 use Rattle.std.specs.Prelude.{IsSomeAnd, neg_ℤ, ◌+ℤ◌}
 use Rattle.std.specs.Int.{w32, int_wrap}
 use Rattle.cell_num.specs.declared.conversions.Conv.TheVariants as conv
@@ -24,7 +24,7 @@ use Rattle.mote_model.specs.Machine.{local_cells, with_local, increased, step_in
 use Rattle.mote_core.specs.declared.turn.Turn.{Turn}
 use Rattle.mote_core.specs.declared.turn.Turn.TheVariants.{Next, Jump}
 use Rattle.mote_core.specs.Turns.{AreCells, CanRun, IsTurn, IsResult, with_top}
-use Rattle.mote_core.proofs.TurnSteps.{Pops, PopsTwo, turn-constant, turn-load, turn-store, turn-inc, turn-pop, turn-bin, turn-neg, turn-cell, turn-jz, turn-jcmp, turn-switch}
+use Rattle.mote_core.proofs.TurnSteps.{Pops, PopsTwo, turn-load, turn-store, turn-inc, turn-bin, turn-neg, turn-cell, turn-jz, turn-jcmp, turn-switch}
 
 module _ (limits : Limits) (frame : Frame) (next : ℕ) (old new : List ℕ) (room : ℕ) (rows : List SwitchRow) where
   -- the instruction's step is what it leaves and the turn

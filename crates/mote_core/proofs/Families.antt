@@ -9,6 +9,7 @@ use Rattle.cell_num.specs.Cells.{low_cell, high_cell, joined_cells}
 use Rattle.cell_num.specs.Arithmetic.{applied}
 use Rattle.cell_num.specs.Conditions.{is_met}
 use Rattle.cell_num.proofs.IntResults.{applied-fits}
+use Rattle.dialogue.specs.Answers.{Answers}
 use Rattle.dialogue.specs.Limits.{Limits}
 use Rattle.dialogue.specs.Natives.{next_byte, after_byte}
 use Rattle.image_instr.specs.declared.insn.SwitchRow.{SwitchRow}
@@ -41,9 +42,10 @@ number-fits o n fits e = subst (λ (o : Option ℤ). IfSome o (λ r. FitsSigned 
 pub pos-fits : (n : ℕ) → n < 65536 → FitsSigned w32 (pos n)
 pos-fits n lt = record { sfits = omega arith }
 
-read-fits : (input : List ℕ) → FitsSigned w32 (next_byte input)
+read-fits : (answers : Answers) → FitsSigned w32 (next_byte answers)
 read-fits [] = record { sfits = omega arith }
-read-fits (byte ∷ input) = pos-fits _ (omega arith)
+read-fits (None ∷ rest) = record { sfits = omega arith }
+read-fits (Some byte ∷ rest) = pos-fits _ (omega arith)
 
 module _ (image : Image) (limits : Limits) (state : State) (good : IsGood image state) (within : state.ticks ≤ limits.ticks) (before : good.frame.pc < length good.method.code) where
   -- the depth after what pops and pushes so many cells, over these operands, reaches the offset
@@ -187,13 +189,13 @@ module _ (image : Image) (limits : Limits) (state : State) (good : IsGood image 
   show-good next bytes (a ∷ []) enough all sent = absurd (omega arith)
   show-good next bytes (high ∷ low ∷ operands) enough all sent =
       if_room image limits state good _
-      (λ room. ticking image limits state good room next good.frame.cells.locals operands state.input
+      (λ room. ticking image limits state good room next good.frame.cells.locals operands state.answers
       (same_locals image limits state good next operands (come 2 0 next (high ∷ low ∷ operands) operands sent (omega arith)) all.1.1))
 
   pub read-good : (next : ℕ) → Moves 0 2 good.frame.cells.operands next → IsGoodStep image limits state good (step_read limits state good.frame [] next)
   read-good next sent =
-      let operands : List ℕ = with_number (next_byte state.input) good.frame.cells.operands in
+      let operands : List ℕ = with_number (next_byte state.answers) good.frame.cells.operands in
       if_room image limits state good _
-      (λ room. ticking image limits state good room next good.frame.cells.locals operands (after_byte state.input)
+      (λ room. ticking image limits state good room next good.frame.cells.locals operands (after_byte state.answers)
       (same_locals image limits state good next operands (come 0 2 next good.frame.cells.operands operands sent (omega arith))
-      (with_number-cells (next_byte state.input) good.frame.cells.operands (read-fits state.input) good.operands)))
+      (with_number-cells (next_byte state.answers) good.frame.cells.operands (read-fits state.answers) good.operands)))

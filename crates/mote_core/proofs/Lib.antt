@@ -10,6 +10,7 @@ pub mod Progress
 pub mod Tops
 pub mod TurnSteps
 pub mod Executes
+pub mod Giving
 pub mod Puts
 pub mod Acting
 pub mod CanRun

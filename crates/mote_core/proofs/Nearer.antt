@@ -2,6 +2,7 @@
 use Rattle.std.proofs.Common.{◌≡◌, ℕ, ◌+◌, ◌-◌, ◌*◌, ◌<◌, ◌≤◌, Bool, true, false, List, [], ◌∷◌, length, nat_le, nat_lt, refl, ap, subst, ◌∙◌, arith, add-mul, one-mul}
 use Rattle.std.specs.List.{AllByRecursion}
 use Rattle.std.proofs.lemmas.Bool.{cond_both, ltb-true, leb-true}
+use Rattle.dialogue.specs.Answers.{Answers}
 use Rattle.dialogue.specs.Limits.{Limits}
 use Rattle.dialogue.specs.Run.{Step, Ends}
 use Rattle.image_instr.specs.declared.signature.Effect.{Effect}
@@ -40,9 +41,9 @@ module _ (image : Image) (limits : Limits) (state : State) (good : IsGood image 
       same_depth : (a b c d : ℕ) → a ≡ b → c ≡ d → depth a c ≡ depth b d
       same_depth a b c d p q = cc
 
-  -- the state with the next frame, after these ticks and with this input left
-  abbrev pub moved_to : ℕ → List ℕ → List ℕ → ℕ → List ℕ → State
-  moved_to to locals operands ticks input = record state { frames = at_cells good.frame to locals operands ∷ []; input = input; ticks = ticks }
+  -- the state with the next frame, after these ticks and with these answers left
+  abbrev pub moved_to : ℕ → List ℕ → List ℕ → ℕ → Answers → State
+  moved_to to locals operands ticks answers = record state { frames = at_cells good.frame to locals operands ∷ []; answers = answers; ticks = ticks }
 
   -- the parts of the next frame
   pub record Fits (to : ℕ) (locals operands : List ℕ) : Type 0 where
@@ -55,8 +56,8 @@ module _ (image : Image) (limits : Limits) (state : State) (good : IsGood image 
   pub same_locals : (to : ℕ) (operands : List ℕ) → Reaches to operands → AllByRecursion IsCell operands → Fits to good.frame.cells.locals operands
   same_locals to operands reached all = record { reached = reached; as_many = refl; locals_are = good.locals; operands_are = all }
 
-  good_at : (to : ℕ) (locals operands : List ℕ) (ticks : ℕ) (input : List ℕ) → Fits to locals operands → IsGood image (moved_to to locals operands ticks input)
-  good_at to locals operands ticks input fits =
+  good_at : (to : ℕ) (locals operands : List ℕ) (ticks : ℕ) (answers : Answers) → Fits to locals operands → IsGood image (moved_to to locals operands ticks answers)
+  good_at to locals operands ticks answers fits =
       record {
         method = good.method;
         frame = at_cells good.frame to locals operands;
@@ -72,22 +73,22 @@ module _ (image : Image) (limits : Limits) (state : State) (good : IsGood image 
 
   -- the code goes on after the instruction
   pub onward : state.ticks ≤ limits.ticks → good.frame.pc < length good.method.code → (to : ℕ) (locals operands : List ℕ) → good.frame.pc < to → Fits to locals operands
-      → IsNearer image limits state good (moved_to to locals operands state.ticks state.input)
+      → IsNearer image limits state good (moved_to to locals operands state.ticks state.answers)
   unfolding good_at
   onward within before to locals operands further fits =
       record {
-        good_next = good_at to locals operands state.ticks state.input fits;
+        good_next = good_at to locals operands state.ticks state.answers fits;
         ticks = within;
         nearer = less_code ((limits.ticks - state.ticks) * (length good.method.code + 1)) (length good.method.code) good.frame.pc to further before;
       }
 
   -- a tick is taken
-  pub ticking : state.ticks + 1 ≤ limits.ticks → (to : ℕ) (locals operands input : List ℕ) → Fits to locals operands
-      → IsNearer image limits state good (moved_to to locals operands (state.ticks + 1) input)
+  pub ticking : state.ticks + 1 ≤ limits.ticks → (to : ℕ) (locals operands : List ℕ) (answers : Answers) → Fits to locals operands
+      → IsNearer image limits state good (moved_to to locals operands (state.ticks + 1) answers)
   unfolding good_at
-  ticking room to locals operands input fits =
+  ticking room to locals operands answers fits =
       record {
-        good_next = good_at to locals operands (state.ticks + 1) input fits;
+        good_next = good_at to locals operands (state.ticks + 1) answers fits;
         ticks = room;
         nearer = less_ticks limits.ticks state.ticks (length good.method.code) good.frame.pc to room;
       }
@@ -112,7 +113,7 @@ module _ (image : Image) (limits : Limits) (state : State) (good : IsGood image 
       (within_budget limits state (goes_on (ticked state) good.frame [] target operands)) (IsGoodStep image limits state good)
       (λ e. goes-good within before target operands (ltb-true good.frame.pc target e) reached all)
       (λ e. if_room (goes_on (ticked state) good.frame [] target operands)
-      (λ room. ticking room target good.frame.cells.locals operands state.input (same_locals target operands reached all)))
+      (λ room. ticking room target good.frame.cells.locals operands state.answers (same_locals target operands reached all)))
 
   pub branches-good : state.ticks ≤ limits.ticks → good.frame.pc < length good.method.code → (next target : ℕ) (operands : List ℕ) (taken : Bool) → good.frame.pc < next → Reaches next operands → Reaches target operands → AllByRecursion IsCell operands
       → IsGoodStep image limits state good (branches limits state good.frame [] next target operands taken)

@@ -1,6 +1,7 @@
 -- The run of a checked and built image is never stuck, and it ends.
 use Rattle.std.proofs.Common.{◌≡◌, ℕ, zero, suc, ◌+◌, ◌<◌, ◌≤◌, Bool, true, false, cond, List, [], ◌∷◌, ◌++◌, length, drop, nat_le, Option, Some, None, refl, sym, ap, subst, ◌∙◌, arith, append_assoc, append-nil, le_refl}
 use Rattle.std.proofs.lemmas.List.{length-replicate}
+use Rattle.dialogue.specs.Answers.{Answers}
 use Rattle.dialogue.specs.Dialogue.{Item}
 use Rattle.dialogue.specs.Limits.{Limits}
 use Rattle.dialogue.specs.Run.{Step, Goes, Ends, Stuck, Running, Over, run_from, after_step}
@@ -47,8 +48,8 @@ step_good image is_image checked built limits state good within =
 
 -- ---- the start
 
-pub start_good : (image : Image) → IsImage image → IsChecked image → IsBuilt image → (method : Method) → method_of image image.main ≡ Some method → (input : List ℕ) → IsGood image (start_with image (first_frame image.main method ∷ []) input)
-start_good image is_image checked built method is_main input =
+pub start_good : (image : Image) → IsImage image → IsChecked image → IsBuilt image → (method : Method) → method_of image image.main ≡ Some method → (answers : Answers) → IsGood image (start_with image (first_frame image.main method ∷ []) answers)
+start_good image is_image checked built method is_main answers =
     record {
       method = method;
       frame = first_frame image.main method;
@@ -116,26 +117,26 @@ ends_from image is_image checked built limits state good within said =
     ends_within image is_image checked built limits (left_of limits good.method.code state good.frame) state good within (le_refl _) said
 
 -- the run of the frame of main, or of no frame where it does not fit the stack
-started : (image : Image) → IsImage image → IsChecked image → IsBuilt image → (limits : Limits) (input : List ℕ) (method : Method) → method_of image image.main ≡ Some method
+started : (image : Image) → IsImage image → IsChecked image → IsBuilt image → (limits : Limits) (answers : Answers) (method : Method) → method_of image image.main ≡ Some method
     → (fits : Bool) → (steps : ℕ) × (more : List Item) × (last : State) × (ending : Ending)
-    × (run_from (machine image limits) (cond fits (Running [] (start_with image (first_frame image.main method ∷ []) input)) (Over [] (start_with image [] input) (StackWanted (frame_cells method) 0))) steps ≡ Over more last ending)
-started image is_image checked built limits input method is_main true =
-    let ended = ends_from image is_image checked built limits (start_with image (first_frame image.main method ∷ []) input) (start_good image is_image checked built method is_main input) (omega arith) [] in
+    × (run_from (machine image limits) (cond fits (Running [] (start_with image (first_frame image.main method ∷ []) answers)) (Over [] (start_with image [] answers) (StackWanted (frame_cells method) 0))) steps ≡ Over more last ending)
+started image is_image checked built limits answers method is_main true =
+    let ended = ends_from image is_image checked built limits (start_with image (first_frame image.main method ∷ []) answers) (start_good image is_image checked built method is_main answers) (omega arith) [] in
     (ended.0, ended.1, ended.2, ended.3, ended.4)
-started image is_image checked built limits input method is_main false =
-    (zero, [], start_with image [] input, StackWanted (frame_cells method) 0, refl)
+started image is_image checked built limits answers method is_main false =
+    (zero, [], start_with image [] answers, StackWanted (frame_cells method) 0, refl)
 
 -- the limited run ends
-pub runs_end : (image : Image) → IsImage image → IsChecked image → IsBuilt image → (limits : Limits) (input : List ℕ) → HasEnd image limits input
-runs_end image is_image checked built limits input =
+pub runs_end : (image : Image) → IsImage image → IsChecked image → IsBuilt image → (limits : Limits) (answers : Answers) → HasEnd image limits answers
+runs_end image is_image checked built limits answers =
     let main = main_there image is_image in
-    let ended = started image is_image checked built limits input main.0 main.1 (nat_le (frame_cells main.0) limits.stack) in
+    let ended = started image is_image checked built limits answers main.0 main.1 (nat_le (frame_cells main.0) limits.stack) in
     record {
-      outcome = record { ending = ended.3; dialogue = ended.1; left = ended.2.input };
+      outcome = record { ending = ended.3; dialogue = ended.1; left = ended.2.answers };
       ends = record {
         steps = ended.0;
         last = ended.2;
-        over = ap (λ o. run_from (machine image limits) (start_main image limits input o) ended.0) main.1 ∙ ended.4;
+        over = ap (λ o. run_from (machine image limits) (start_main image limits answers o) ended.0) main.1 ∙ ended.4;
         left = refl;
       };
     }

@@ -1,7 +1,7 @@
 -- The cells of a frame as its locals and the operands, of which some are on top.
-use Rattle.std.proofs.Common.{◌≡◌, ℕ, ◌+◌, ◌-◌, ◌<◌, ◌≤◌, List, [], ◌∷◌, ◌++◌, length, take, drop, get_or, Option, Some, None, refl, sym, ap, subst, ◌∙◌, append_assoc, arith}
+use Rattle.std.proofs.Common.{◌≡◌, ℕ, ◌+◌, ◌-◌, ◌<◌, ◌≤◌, List, [], ◌∷◌, ◌++◌, length, take, drop, get_or, Some, refl, sym, ap, ◌∙◌, append_assoc, arith}
 use Rattle.std.specs.Prelude.{reverse, slice_get, slice_set}
-use Rattle.std.proofs.lemmas.List.{append-nil, reverse-append, length-append, length-reverse, length-take-le, take-append-drop, get_or_append_left, set-append_left, length-set}
+use Rattle.std.proofs.lemmas.List.{reverse-append, length-append, length-reverse, length-take-le, take-append-drop, get_or_append_left, set-append_left, length-set}
 use Rattle.std.proofs.Math.Seq.{take-append_seam}
 use Rattle.std.proofs.lemmas.Option.{slice_get-get_or}
 use Rattle.mote_model.specs.Machine.{local_cells, with_local}
@@ -15,6 +15,23 @@ under locals tops operands =
 -- four cells after the rest are two after two
 pub two_after : (rest : List ℕ) (a b c d : ℕ) → rest ++ a ∷ b ∷ c ∷ d ∷ [] ≡ (rest ++ a ∷ b ∷ []) ++ c ∷ d ∷ []
 two_after rest a b c d = sym (append_assoc rest (a ∷ b ∷ []) (c ∷ d ∷ []))
+
+head_of : (x y : ℕ) (xs ys : List ℕ) → x ∷ xs ≡ y ∷ ys → x ≡ y
+head_of x y xs ys e = cc
+
+tail_of : (x y : ℕ) (xs ys : List ℕ) → x ∷ xs ≡ y ∷ ys → xs ≡ ys
+tail_of x y xs ys e = cc
+
+-- the two topmost cells are known
+pub same_pair : (xs ys : List ℕ) (a b c d : ℕ) → xs ++ a ∷ b ∷ [] ≡ ys ++ c ∷ d ∷ [] → (xs ≡ ys) × ((a ≡ c) × (b ≡ d))
+same_pair [] [] a b c d e =
+    (refl, (head_of a c (b ∷ []) (d ∷ []) e, head_of b d [] [] (tail_of a c (b ∷ []) (d ∷ []) e)))
+same_pair [] (y ∷ ys) a b c d e = absurd (omega (arith, ap length e, length-append ys (c ∷ d ∷ [])))
+same_pair (x ∷ xs) [] a b c d e = absurd (omega (arith, ap length e, length-append xs (a ∷ b ∷ [])))
+same_pair (x ∷ xs) (y ∷ ys) a b c d e =
+    let first = head_of x y (xs ++ a ∷ b ∷ []) (ys ++ c ∷ d ∷ []) e in
+    let rest = same_pair xs ys a b c d (tail_of x y (xs ++ a ∷ b ∷ []) (ys ++ c ∷ d ∷ []) e) in
+    (λ i. first i ∷ rest.0 i, rest.1)
 
 -- what was pushed lies on the operands
 pub pushed : (old new locals operands tops : List ℕ) → AreCells old locals operands → new ≡ old ++ reverse tops → AreCells new locals (tops ++ operands)

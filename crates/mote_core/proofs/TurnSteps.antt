@@ -1,6 +1,6 @@
 -- Each instruction's effect on the cells, and its turn, are its step of the split machine.
 use Rattle.std.proofs.Common.{◌≡◌, ℕ, ℤ, pos, ◌+◌, ◌-◌, ◌<◌, ◌≤◌, Bool, true, false, cond, List, [], ◌∷◌, ◌++◌, length, get_or, take, drop, Option, Some, None, refl, sym, ap, subst, ◌∙◌, arith, rules}
-use Rattle.std.specs.Prelude.{◌≢◌, reverse, nat_le, IsSomeAnd, neg_ℤ, ◌+ℤ◌, if◌then◌else◌}
+use Rattle.std.specs.Prelude.{◌≢◌, reverse, nat_le, IsSomeAnd, neg_ℤ, ◌+ℤ◌}
 use Rattle.std.specs.Int.{w32, int_wrap}
 use Rattle.std.proofs.lemmas.List.{reverse-reverse}
 use Rattle.cell_num.specs.Cells.{low_cell, high_cell, joined_cells}
@@ -9,19 +9,17 @@ use Rattle.cell_num.specs.Conditions.{is_met}
 use Rattle.std.specs.Fmt.{signed_decimal}
 use Rattle.dialogue.specs.Limits.{Limits}
 use Rattle.dialogue.specs.Natives.{low_byte}
-use Rattle.dialogue.specs.Run.{Step, Goes, Ends, Stuck}
 use Rattle.image_instr.specs.declared.insn.Operation.{Operation}
 use Rattle.image_instr.specs.declared.insn.Condition.{Condition}
 use Rattle.image_instr.specs.declared.insn.SwitchRow.{SwitchRow}
 use Rattle.image_instr.specs.Switch.{target_in}
-use Rattle.mote_model.specs.declared.ending.Ending.{Ending}
 use Rattle.mote_model.specs.State.{Frame}
 use Rattle.mote_model.specs.Numbers.{with_number, op_of, cond_of}
 use Rattle.mote_model.specs.Machine.{local_cells, with_local, increased, goes_on, goes_with, without, step_load, step_store, step_inc, step_result, step_bin, step_neg, step_cell, step_jz, step_jcmp, step_switch, step_show, step_call, branches, jumps}
 use Rattle.mote_core.specs.declared.turn.Turn.{Turn}
-use Rattle.mote_core.specs.declared.turn.Turn.TheVariants.{Next, Jump, Throw, Return, Write, Read, Print}
+use Rattle.mote_core.specs.declared.turn.Turn.TheVariants.{Next, Jump, Write, Read, Print}
 use Rattle.mote_core.specs.Turns.{AreCells, IsTurn, IsResult, HasTop, IsNative, IsWrite, IsRead, IsPrint, with_top}
-use Rattle.mote_core.proofs.Tops.{under, two_after, pushed, local_there, local-prefix, with_local-prefix, IsTopOne, top_one, IsTopTwo, top_two, dropped, height_of}
+use Rattle.mote_core.proofs.Tops.{under, pushed, local_there, local-prefix, with_local-prefix, dropped}
 
 -- what taking the number on top answers, said for each rest
 abbrev pub Pops : List ℕ → (List ℕ → ℕ → ℕ → Type 0) → Type 0

@@ -1,10 +1,11 @@
 -- What a turn does: the rest of the step, over a console.
-use Rattle.std.specs.Prelude.{◌≡◌, ℕ, ℤ, ◌+◌, ◌<◌, ◌≤◌, ◌⊎◌, Bool, true, false, List, [], ◌∷◌, Option, option_map, Result, Ok, Err}
-use Rattle.dialogue.specs.Dialogue.{Item}
+use Rattle.std.specs.Prelude.{◌≡◌, ℕ, ℤ, ◌+◌, ◌<◌, ◌≤◌, ◌⊎◌, Bool, true, false, List, [], ◌∷◌, Option, Result, Ok, Err}
+use Rattle.dialogue.specs.Answers.{Answers, MayGive}
+use Rattle.dialogue.specs.Dialogue.{Item, gets}
 use Rattle.dialogue.specs.Limits.{Limits}
 use Rattle.dialogue.specs.Natives.{next_byte, after_byte}
-use Rattle.dialogue.specs.Run.{Step, Goes, Ends, Stuck}
-use Rattle.host_face.specs.Talk.{Talked, BrokeOff}
+use Rattle.dialogue.specs.Run.{Step, Goes, Ends}
+use Rattle.host_face.specs.Talk.{Talked, BrokeOff, without_first}
 use Rattle.mote_model.specs.declared.ending.Ending.{Ending}
 use Rattle.mote_model.specs.declared.ending.Ending.TheVariants.{Spent, ConsoleFault}
 use Rattle.mote_model.specs.State.{Frame, State}
@@ -29,14 +30,6 @@ pub record IsPlaceOf (limits : Limits) (place : Place) (state : State) : Type 0 
   pub cells : AreCells place.cells frame.cells.locals frame.cells.operands
   pub left : place.left + state.ticks ≡ limits.ticks
 
--- a console that told what it had left before tells that this is left now
-abbrev pub TellsNow : Option (List ℕ) → Option (List ℕ) → List ℕ → Type 0
-TellsNow before left input = left ≡ option_map (λ _. input) before
-
--- the input is what a console has left, where it tells that
-abbrev pub Tells : Option (List ℕ) → List ℕ → Type 0
-Tells left input = TellsNow left left input
-
 -- one of the ticks that are left is taken, if there is one
 abbrev pub IsTick : ℕ → ℕ → Bool → Type 0
 IsTick left after true = left ≡ after + 1
@@ -48,47 +41,64 @@ IsJump pc target left pc_after left_after (Ok _) =
     (pc_after ≡ target) × (((pc < target) × (left_after ≡ left)) ⊎ ((target ≤ pc) × (left ≡ left_after + 1)))
 IsJump pc target left pc_after left_after (Err ending) = (ending ≡ Spent) × ((target ≤ pc) × (left ≡ 0))
 
--- a number is the value of the next byte of an input that the console did not deny
-pub record IsRead (before after : Option (List ℕ)) (number : ℤ) : Type 0 where
-  pub input : List ℕ
-  pub tells : Tells before input
-  pub value : number ≡ next_byte input
-  pub now : TellsNow before after (after_byte input)
+-- the same state with other answers to come
+abbrev pub with_answers : State → Answers → State
+with_answers state answers = record state { answers = answers }
 
--- the same state with another input
-abbrev pub with_input : State → List ℕ → State
-with_input state input = record state { input = input }
+-- the console may give answers, of which the first has this value, and these others after it
+pub record Gave (before : Option (List ℕ)) (number : ℤ) (others : Answers) : Type 0 where
+  pub answers : Answers
+  pub may : MayGive before answers
+  pub value : number ≡ next_byte answers
+  pub others_are : others ≡ after_byte answers
+
+-- a number is the value of an answer, before whatever a console may give after it
+pub record IsRead (before after : Option (List ℕ)) (number : ℤ) : Type 0 where
+  pub gave : (others : Answers) → MayGive after others → Gave before number others
+  pub rest : after ≡ without_first 1 before
+
+-- a step from answers that the console may give, which goes on to the state with these others to come
+pub record StepsFrom (step : Answers → Step State Ending) (before : Option (List ℕ)) (items : List Item) (next : State) (others : Answers) : Type 0 where
+  pub answers : Answers
+  pub may : MayGive before answers
+  pub goes : step answers ≡ Goes items (with_answers next others)
 
 module _ {C : Type 0} (left shown noted : C → Option (List ℕ)) (faults : C → ℕ) (room : C → Option ℕ) where
-  -- the items were said, and the machine is in the next state
-  pub record Went (limits : Limits) (old new : C) (place : Place) (items : List Item) (next : State) : Type 0 where
+  -- the step goes on: the items were said, and the machine is in the next state, whatever is still to come
+  pub record Went (limits : Limits) (old new : C) (place : Place) (step : Answers → Step State Ending) : Type 0 where
+    pub items : List Item
+    pub next : State
     pub talked : Talked shown noted faults room old new items
     pub is : IsPlaceOf limits place next
-    pub tells : TellsNow (left old) (left new) next.input
+    pub goes : (others : Answers) → MayGive (left new) others → StepsFrom step (left old) items next others
+    pub rest : left new ≡ without_first (gets items) (left old)
 
-  -- the run ends, and nothing was said
-  pub record Stopped (old new : C) (ending result : Ending) : Type 0 where
-    pub same : result ≡ ending
-    pub known : IsStepEnding ending
+  -- the step ends the run, and nothing was said
+  pub record Stopped (old new : C) (step : Answers → Step State Ending) (result : Ending) : Type 0 where
+    pub answers : Answers
+    pub may : MayGive (left old) answers
+    pub ends : step answers ≡ Ends result
+    pub known : IsStepEnding result
     pub quiet : new ≡ old
 
-  -- the step was done: it goes on, or the run ends, or the console failed
-  abbrev pub Shows : Limits → (old new : C) → Place → Step State Ending → Result (Unit {0}) Ending → Type 0
-  Shows limits old new place (Goes items next) (Ok _) = Went limits old new place items next
-  Shows limits old new place (Goes items next) (Err ending) = (ending ≡ ConsoleFault) × BrokeOff shown noted faults room old new items
-  Shows limits old new place (Ends ending) (Ok _) = ⊥
-  Shows limits old new place (Ends ending) (Err result) = Stopped old new ending result
-  Shows limits old new place Stuck result = ⊥
+  -- the step goes on, but the console failed
+  pub record Broke (old new : C) (step : Answers → Step State Ending) (result : Ending) : Type 0 where
+    pub items : List Item
+    pub next : State
+    pub answers : Answers
+    pub may : MayGive (left old) answers
+    pub goes : step answers ≡ Goes items next
+    pub broke : BrokeOff left shown noted faults room old new items
+    pub fault : result ≡ ConsoleFault
 
-  -- the turn was done, on an input that the console did not deny
-  pub record Acted (limits : Limits) (state : State) (frame : Frame) (next : ℕ) (turn : Turn) (locals operands : List ℕ) (old new : C) (place : Place) (result : Result (Unit {0}) Ending) : Type 0 where
-    pub input : List ℕ
-    pub tells : Tells (left old) input
-    pub shows : Shows limits old new place (meaning limits (with_input state input) frame next turn locals operands) result
+  -- the step was done: it goes on, or the run ends, or the console failed
+  abbrev pub Shows : Limits → (old new : C) → Place → (Answers → Step State Ending) → Result (Unit {0}) Ending → Type 0
+  Shows limits old new place step (Ok _) = Went limits old new place step
+  Shows limits old new place step (Err result) = Stopped old new step result ⊎ Broke old new step result
 
   -- from any state of this place the turn is done
   abbrev pub Acts : Turn → ℕ → Place → (old new : C) → Place → Result (Unit {0}) Ending → Type 0
   Acts turn next before old new after result =
       (limits : Limits) (state : State) (frame : Frame) (locals operands : List ℕ)
-      → AreCells before.cells locals operands → before.pc ≡ frame.pc → before.left + state.ticks ≡ limits.ticks → Tells (left old) state.input
-      → Acted limits state frame next turn locals operands old new after result
+      → AreCells before.cells locals operands → before.pc ≡ frame.pc → before.left + state.ticks ≡ limits.ticks
+      → Shows limits old new after (λ answers. meaning limits (with_answers state answers) frame next turn locals operands) result

@@ -2,6 +2,7 @@
 -- operands reaches the pc.
 use Rattle.std.specs.Prelude.{◌≡◌, ℕ, ◌+◌, ◌-◌, ◌*◌, ◌^◌, ◌<◌, ◌≤◌, List, [], ◌∷◌, length, Some}
 use Rattle.std.specs.List.{AllByRecursion}
+use Rattle.dialogue.specs.Answers.{Answers}
 use Rattle.dialogue.specs.Limits.{Limits}
 use Rattle.dialogue.specs.Outcome.{Outcome}
 use Rattle.dialogue.specs.Run.{Step, Goes, Ends, Stuck}
@@ -11,7 +12,7 @@ use Rattle.image_check.specs.Visits.{depth, IsSent}
 use Rattle.mote_model.specs.declared.ending.Ending.{Ending}
 use Rattle.mote_model.specs.declared.ending.Ending.TheVariants.{Done, Uncaught, Spent}
 use Rattle.mote_model.specs.State.{Frame, State}
-use Rattle.mote_model.specs.Machine.{method_of, step_frames, LimitedSo}
+use Rattle.mote_model.specs.Machine.{method_of, LimitedSo}
 
 abbrev pub IsCell : ℕ → Type 0
 IsCell cell = cell < 2 ^ 16
@@ -53,6 +54,6 @@ IsGoodStep image limits state good (Ends ending) = IsStepEnding ending
 IsGoodStep image limits state good Stuck = ⊥
 
 -- the limited run of the image ends
-pub record HasEnd (image : Image) (limits : Limits) (input : List ℕ) : Type 0 where
+pub record HasEnd (image : Image) (limits : Limits) (answers : Answers) : Type 0 where
   pub outcome : Outcome Ending
-  pub ends : LimitedSo image limits input outcome
+  pub ends : LimitedSo image limits answers outcome

@@ -3,3 +3,4 @@ pub mod Ran
 pub mod Good
 pub mod Turns
 pub mod Acts
+pub mod CellsInUse

@@ -106,8 +106,8 @@ meaning limits state frame next Read locals operands =
     within_budget limits state
     (Goes (Get ∷ [])
     (record (ticked state) {
-      frames = at_cells frame next locals (with_number (next_byte state.input) operands) ∷ [];
-      input = after_byte state.input;
+      frames = at_cells frame next locals (with_number (next_byte state.answers) operands) ∷ [];
+      answers = after_byte state.answers;
     }))
 
 -- the turn and the cells that an instruction has left are its step, in whatever state

@@ -1,6 +1,6 @@
 //! The turns that control takes: ticks, jumps and the natives of the library over a console.
 
-ghost use Rattle.std.specs.Prelude.{◌≡◌, ◌+◌, ◌≤◌, [], ◌∷◌, IfOk, replicate, vec_len, vec_capacity};
+ghost use Rattle.std.specs.Prelude.{◌≡◌, ◌+◌, ◌≤◌, [], ◌∷◌, IfOk, replicate, length};
 ghost use Rattle.std.specs.Fmt.{signed_decimal};
 ghost use Rattle.dialogue.specs.Dialogue.{Get, putting};
 ghost use Rattle.dialogue.specs.Natives.{low_byte as low_byte_of};
@@ -9,7 +9,7 @@ ghost use Rattle.mote_core.specs.declared.turn.Turn.TheVariants.{Write, Read, Pr
 ghost use Rattle.mote_core.specs.Turns.{CanFollow};
 ghost use Rattle.mote_core.specs.Acts.{Acts, IsTick, IsJump, IsRead, place};
 
-use crate::cells::{push_number, push_zeros};
+use crate::cells::{Cells, push_number, push_zeros};
 use crate::turn::Turn;
 use host_face::{Console, ConsoleFailed};
 use itoa::Buffer;
@@ -20,13 +20,13 @@ use mote_model::Ending;
 #[derive(Drop)]
 pub(crate) struct Active {
     pub(crate) pc: usize,
-    pub(crate) cells: Vec<u16>,
+    pub(crate) cells: Cells,
     pub(crate) left: u64,
 }
 
 impl Active {
     /// Nowhere yet, over cells that have room.
-    pub(crate) fn new(cells: Vec<u16>) -> Active
+    pub(crate) fn new(cells: Cells) -> Active
         ensures { result.cells ≡ cells }
     {
         Active {
@@ -38,11 +38,11 @@ impl Active {
 
     /// Goes to the start of a method that has so many cells as locals.
     pub(crate) fn start(&mut self, cell_locals: u16, ticks: u64)
-        requires { cell_locals ≤ vec_capacity self.old.cells }
+        requires { cell_locals ≤ self.old.cells.room }
         ensures pc { self.new.pc ≡ 0 }
         ensures cells { self.new.cells.items ≡ replicate cell_locals 0 }
         ensures left { self.new.left ≡ ticks }
-        ensures room { vec_capacity self.old.cells ≤ vec_capacity self.new.cells }
+        ensures room { self.new.cells.room ≡ self.old.cells.room }
     {
         self.cells.clear();
         push_zeros(&mut self.cells, cell_locals);
@@ -51,6 +51,7 @@ impl Active {
     }
 
     /// One tick, if there is one left.
+    #[inline(always)]
     fn tick(&mut self) -> bool
         ensures tick { IsTick self.old.left self.new.left result }
         ensures pc { self.new.pc ≡ self.old.pc }
@@ -64,6 +65,7 @@ impl Active {
     }
 
     /// Goes to a pc. One that is not after the pc takes a tick.
+    #[inline(always)]
     fn jump(&mut self, target: u16) -> Result<(), Ending>
         ensures jumped { IsJump self.old.pc target self.old.left self.new.pc self.new.left result }
         ensures cells { self.new.cells ≡ self.old.cells }
@@ -86,7 +88,7 @@ fn low_byte(number: i32) -> u8
 
 /// Shows each of the bytes.
 fn show<C: Console>(console: &mut C, bytes: &[u8]) -> Result<(), ConsoleFailed>
-    ensures said { Says C.shown C.noted C.faults C.room console.old console.new (putting bytes.now) result }
+    ensures said { Says C.left C.shown C.noted C.faults C.room console.old console.new (putting bytes.now) result }
     ensures left { C.left console.new ≡ C.left console.old }
 {
     for byte in bytes {
@@ -97,7 +99,7 @@ fn show<C: Console>(console: &mut C, bytes: &[u8]) -> Result<(), ConsoleFailed>
 
 /// Shows a number in decimal.
 fn print<C: Console>(console: &mut C, number: i32) -> Result<(), ConsoleFailed>
-    ensures said { Says C.shown C.noted C.faults C.room console.old console.new (putting (signed_decimal number)) result }
+    ensures said { Says C.left C.shown C.noted C.faults C.room console.old console.new (putting (signed_decimal number)) result }
     ensures left { C.left console.new ≡ C.left console.old }
 {
     let mut buffer = Buffer::new();
@@ -106,7 +108,7 @@ fn print<C: Console>(console: &mut C, number: i32) -> Result<(), ConsoleFailed>
 
 /// The value of the next byte, or -1 where none is left.
 fn read<C: Console>(console: &mut C) -> Result<i32, ConsoleFailed>
-    ensures said { Says C.shown C.noted C.faults C.room console.old console.new (Get ∷ []) result }
+    ensures said { Says C.left C.shown C.noted C.faults C.room console.old console.new (Get ∷ []) result }
     ensures number { IfOk result (λ number. IsRead (C.left console.old) (C.left console.new) number) }
 {
     match console.get()? {
@@ -116,6 +118,7 @@ fn read<C: Console>(console: &mut C) -> Result<i32, ConsoleFailed>
 }
 
 /// write: a tick, and the low eight bits of a number are shown.
+#[inline(never)]
 fn write<C: Console>(
     number: i32,
     next: usize,
@@ -125,7 +128,7 @@ fn write<C: Console>(
     ensures acts { Acts C.left C.shown C.noted C.faults C.room (Write number) next
         (place active.old.pc active.old.cells.items active.old.left) console.old console.new
         (place active.new.pc active.new.cells.items active.new.left) result }
-    ensures room { vec_capacity active.old.cells ≤ vec_capacity active.new.cells }
+    ensures room { active.new.cells.room ≡ active.old.cells.room }
 {
     if !active.tick() {
         return Err(Ending::Spent);
@@ -140,6 +143,7 @@ fn write<C: Console>(
 }
 
 /// print: a tick, and a number is shown in decimal.
+#[inline(never)]
 fn write_decimal<C: Console>(
     number: i32,
     next: usize,
@@ -149,7 +153,7 @@ fn write_decimal<C: Console>(
     ensures acts { Acts C.left C.shown C.noted C.faults C.room (Print number) next
         (place active.old.pc active.old.cells.items active.old.left) console.old console.new
         (place active.new.pc active.new.cells.items active.new.left) result }
-    ensures room { vec_capacity active.old.cells ≤ vec_capacity active.new.cells }
+    ensures room { active.new.cells.room ≡ active.old.cells.room }
 {
     if !active.tick() {
         return Err(Ending::Spent);
@@ -164,12 +168,13 @@ fn write_decimal<C: Console>(
 }
 
 /// read: a tick, and the value of the next byte is pushed.
+#[inline(never)]
 fn push_read<C: Console>(next: usize, active: &mut Active, console: &mut C) -> Result<(), Ending>
-    requires { vec_len active.old.cells + 2 ≤ vec_capacity active.old.cells }
+    requires { length active.old.cells.items + 2 ≤ active.old.cells.room }
     ensures acts { Acts C.left C.shown C.noted C.faults C.room Read next
         (place active.old.pc active.old.cells.items active.old.left) console.old console.new
         (place active.new.pc active.new.cells.items active.new.left) result }
-    ensures room { vec_capacity active.old.cells ≤ vec_capacity active.new.cells }
+    ensures room { active.new.cells.room ≡ active.old.cells.room }
 {
     if !active.tick() {
         return Err(Ending::Spent);
@@ -185,17 +190,18 @@ fn push_read<C: Console>(next: usize, active: &mut Active, console: &mut C) -> R
 }
 
 /// Does a turn. Behind it, unless it jumps, the code goes on at `next`.
+#[inline(always)]
 pub(crate) fn act<C: Console>(
     turn: Turn,
     next: usize,
     active: &mut Active,
     console: &mut C,
 ) -> Result<(), Ending>
-    requires { CanFollow turn (vec_len active.old.cells) (vec_capacity active.old.cells) }
+    requires { CanFollow turn (length active.old.cells.items) active.old.cells.room }
     ensures acts { Acts C.left C.shown C.noted C.faults C.room turn next
         (place active.old.pc active.old.cells.items active.old.left) console.old console.new
         (place active.new.pc active.new.cells.items active.new.left) result }
-    ensures room { vec_capacity active.old.cells ≤ vec_capacity active.new.cells }
+    ensures room { active.new.cells.room ≡ active.old.cells.room }
 {
     match turn {
         Turn::Next => active.pc = next,

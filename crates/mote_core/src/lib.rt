@@ -8,8 +8,6 @@ mod act;
 mod cells;
 mod laws;
 mod mote;
-#[cfg(test)]
-mod tests;
 mod turn;
 
 pub use laws::checked_images_end;

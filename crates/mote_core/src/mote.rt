@@ -7,11 +7,12 @@ ghost use Rattle.mote_core.specs.Ready.{Ready};
 ghost use Rattle.mote_core.specs.Ran.{Ran, IsEndingSoFar};
 
 use crate::act::{Active, act};
-use crate::turn::execute;
+use crate::cells::Cells;
+use crate::turn::{Turn, execute};
 use host_face::Console;
 use image_check::Checked;
 use image_form::{Image, Method};
-use image_instr::decode_at;
+use image_instr::decode_known;
 use mote_model::Ending;
 use std::alloc::Global;
 use std::marker::Model;
@@ -32,14 +33,14 @@ pub struct Mote {
 }
 
 impl Model for Mote {
-    ghost use Rattle.std.specs.Prelude.{◌≤◌, vec_capacity};
+    ghost use Rattle.std.specs.Prelude.{◌≤◌};
     ghost use Rattle.mote_core.specs.Ready.{Ready};
 
     ghost Value = { Ready };
 
     ghost view = { λ mote. record { image = mote.checked; heap = mote.heap; stack = mote.stack } };
 
-    ghost invariant = { λ mote. mote.stack ≤ vec_capacity mote.active.cells };
+    ghost invariant = { λ mote. mote.stack ≤ mote.active.cells.room };
 }
 
 impl Mote {
@@ -53,7 +54,7 @@ impl Mote {
         ensures ok { IfOk result (λ mote. mote ≡ record { image = checked; heap = heap; stack = stack }) }
         ensures err { IfErr result (λ back. back ≡ checked) }
     {
-        match Vec::with_capacity(alloc, usize::from(stack)) {
+        match Cells::new(alloc, stack) {
             Ok(cells) => Ok(Mote {
                 checked,
                 heap,
@@ -85,14 +86,19 @@ impl Mote {
         }
         self.active.start(main.cell_locals, ticks);
         let code = main.code.as_slice();
-        while let Some((insn, size)) = decode_at(code, self.active.pc) {
+        loop {
+            let (insn, size) = decode_known(code, self.active.pc);
             let turn = execute(code, self.active.pc, insn, &mut self.active.cells);
             let next = self.active.pc + size;
-            if let Err(ending) = act(turn, next, &mut self.active, console) {
-                return ending;
+            match turn {
+                Turn::Next => self.active.pc = next,
+                _ => {
+                    if let Err(ending) = act(turn, next, &mut self.active, console) {
+                        return ending;
+                    }
+                }
             }
         }
-        unreachable!()
     }
 }
 

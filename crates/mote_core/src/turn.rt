@@ -1,6 +1,6 @@
 //! What one instruction does to the cells of a frame, and the turn that control takes after it.
 
-ghost use Rattle.std.specs.Prelude.{◌≡◌, ℕ, pos, neg_ℤ, ◌+◌, ◌≤◌, ◌++◌, ◌∷◌, [], List, drop, if◌then◌else◌, vec_len, vec_capacity};
+ghost use Rattle.std.specs.Prelude.{◌≡◌, ℕ, pos, neg_ℤ, ◌+◌, ◌≤◌, ◌++◌, ◌∷◌, [], List, drop, if◌then◌else◌, length};
 ghost use Rattle.std.specs.Int.{w32, int_wrap};
 ghost use Rattle.cell_num.specs.Arithmetic.{applied};
 ghost use Rattle.cell_num.specs.Conditions.{is_met};
@@ -20,7 +20,7 @@ ghost use Rattle.mote_model.specs.Machine.{step_insn, step_call};
 ghost use Rattle.mote_core.specs.Turns.{AreCells, IsFound, CanRun, Runs, IsTurn, IsResult, CanFollow, with_top};
 ghost use Rattle.mote_core.specs.declared.turn.Turn.TheVariants.{Next, Jump};
 
-use crate::cells::{drop_top, increase, load, pop, pop_number, push, push_number, store};
+use crate::cells::{Cells, drop_top, increase, load, pop, pop_number, push, push_number, store};
 use cell_num::{BinOp, Cond, Conv, apply, convert, holds, sext, split};
 use image_instr::{Condition, Kind, MInsn, Operation, Width, switch_target};
 
@@ -52,6 +52,7 @@ const WRITE: u16 = 1;
 const READ: u16 = 2;
 
 /// The operation on ints that an instruction names.
+#[inline(always)]
 fn operator(operation: Operation) -> BinOp
     ensures { result ≡ op_of operation }
 {
@@ -71,6 +72,7 @@ fn operator(operation: Operation) -> BinOp
 }
 
 /// The condition on ints that an instruction names.
+#[inline(always)]
 fn comparison(condition: Condition) -> Cond
     ensures { result ≡ cond_of condition }
 {
@@ -85,13 +87,14 @@ fn comparison(condition: Condition) -> Cond
 }
 
 /// Replaces the two numbers on top by what an operation gives of them.
-fn binary(cells: &mut Vec<u16>, operation: Operation) -> Turn
-    requires { 4 ≤ vec_len cells.old }
+#[inline(always)]
+fn binary(cells: &mut Cells, operation: Operation) -> Turn
+    requires { 4 ≤ length cells.old.items }
     ensures turn { (rest : List ℕ) (left_low left_high low high : ℕ)
         → cells.old.items ≡ rest ++ left_low ∷ left_high ∷ low ∷ high ∷ []
         → IsResult rest (applied (op_of operation) (joined_cells left_low left_high) (joined_cells low high)) cells.new.items result }
-    ensures room { vec_capacity cells.old ≤ vec_capacity cells.new }
-    ensures follows { CanFollow result (vec_len cells.new) (vec_capacity cells.new) }
+    ensures room { cells.new.room ≡ cells.old.room }
+    ensures follows { CanFollow result (length cells.new.items) cells.new.room }
 {
     let right = pop_number(cells);
     let left = pop_number(cells);
@@ -107,46 +110,50 @@ fn binary(cells: &mut Vec<u16>, operation: Operation) -> Turn
 }
 
 /// Negates the number on top.
-fn negate(cells: &mut Vec<u16>)
-    requires { 2 ≤ vec_len cells.old }
+#[inline(always)]
+fn negate(cells: &mut Cells)
+    requires { 2 ≤ length cells.old.items }
     ensures items { (rest : List ℕ) (low high : ℕ) → cells.old.items ≡ rest ++ low ∷ high ∷ []
         → cells.new.items ≡ with_top rest (int_wrap w32 (neg_ℤ (joined_cells low high))) }
-    ensures room { vec_capacity cells.old ≤ vec_capacity cells.new }
+    ensures room { cells.new.room ≡ cells.old.room }
 {
     let number = pop_number(cells);
     push_number(cells, number.wrapping_neg());
 }
 
 /// Makes the cell on top a number, by its sign.
-fn extend_sign(cells: &mut Vec<u16>)
-    requires some { 1 ≤ vec_len cells.old }
-    requires room { vec_len cells.old + 1 ≤ vec_capacity cells.old }
+#[inline(always)]
+fn extend_sign(cells: &mut Cells)
+    requires some { 1 ≤ length cells.old.items }
+    requires room { length cells.old.items + 1 ≤ cells.old.room }
     ensures items { (rest : List ℕ) (cell : ℕ) → cells.old.items ≡ rest ++ cell ∷ []
         → cells.new.items ≡ with_top rest (sign_extended cell) }
-    ensures room { vec_capacity cells.old ≤ vec_capacity cells.new }
+    ensures room { cells.new.room ≡ cells.old.room }
 {
     let cell = pop(cells);
     push_number(cells, sext(cell));
 }
 
 /// Makes the cell on top a number, by zero.
-fn extend_zero(cells: &mut Vec<u16>)
-    requires some { 1 ≤ vec_len cells.old }
-    requires room { vec_len cells.old + 1 ≤ vec_capacity cells.old }
+#[inline(always)]
+fn extend_zero(cells: &mut Cells)
+    requires some { 1 ≤ length cells.old.items }
+    requires room { length cells.old.items + 1 ≤ cells.old.room }
     ensures items { (rest : List ℕ) (cell : ℕ) → cells.old.items ≡ rest ++ cell ∷ []
         → cells.new.items ≡ with_top rest (pos cell) }
-    ensures room { vec_capacity cells.old ≤ vec_capacity cells.new }
+    ensures room { cells.new.room ≡ cells.old.room }
 {
     let cell = pop(cells);
     push_number(cells, i32::from(cell));
 }
 
 /// Extends the sign of the low byte of the cell on top.
-fn extend_byte(cells: &mut Vec<u16>)
-    requires { 1 ≤ vec_len cells.old }
+#[inline(always)]
+fn extend_byte(cells: &mut Cells)
+    requires { 1 ≤ length cells.old.items }
     ensures items { (rest : List ℕ) (cell : ℕ) → cells.old.items ≡ rest ++ cell ∷ []
         → cells.new.items ≡ rest ++ low_cell (converted Byte (sign_extended cell)) ∷ [] }
-    ensures room { vec_capacity cells.old ≤ vec_capacity cells.new }
+    ensures room { cells.new.room ≡ cells.old.room }
 {
     let cell = pop(cells);
     let (low, _) = split(convert(Conv::Byte, sext(cell)));
@@ -154,6 +161,7 @@ fn extend_byte(cells: &mut Vec<u16>)
 }
 
 /// Jumps if a test holds.
+#[inline(always)]
 fn jump_if(holds: bool, target: u16) -> Turn
     ensures { result ≡ (if holds then Jump target else Next) }
 {
@@ -165,23 +173,25 @@ fn jump_if(holds: bool, target: u16) -> Turn
 }
 
 /// Compares the number on top with 0.
-fn test(cells: &mut Vec<u16>, condition: Condition) -> bool
-    requires { 2 ≤ vec_len cells.old }
+#[inline(always)]
+fn test(cells: &mut Cells, condition: Condition) -> bool
+    requires { 2 ≤ length cells.old.items }
     ensures test { (rest : List ℕ) (low high : ℕ) → cells.old.items ≡ rest ++ low ∷ high ∷ []
         → (cells.new.items ≡ rest) × (result ≡ is_met (cond_of condition) (joined_cells low high) (pos 0)) }
-    ensures room { vec_capacity cells.old ≤ vec_capacity cells.new }
+    ensures room { cells.new.room ≡ cells.old.room }
 {
     let number = pop_number(cells);
     holds(comparison(condition), number, 0)
 }
 
 /// Compares the two numbers on top.
-fn compare(cells: &mut Vec<u16>, condition: Condition) -> bool
-    requires { 4 ≤ vec_len cells.old }
+#[inline(always)]
+fn compare(cells: &mut Cells, condition: Condition) -> bool
+    requires { 4 ≤ length cells.old.items }
     ensures test { (rest : List ℕ) (left_low left_high low high : ℕ)
         → cells.old.items ≡ rest ++ left_low ∷ left_high ∷ low ∷ high ∷ []
         → (cells.new.items ≡ rest) × (result ≡ is_met (cond_of condition) (joined_cells left_low left_high) (joined_cells low high)) }
-    ensures room { vec_capacity cells.old ≤ vec_capacity cells.new }
+    ensures room { cells.new.room ≡ cells.old.room }
 {
     let right = pop_number(cells);
     let left = pop_number(cells);
@@ -189,26 +199,26 @@ fn compare(cells: &mut Vec<u16>, condition: Condition) -> bool
 }
 
 /// Looks up the number on top in the rows of the switch or table at the pc.
-fn look_up(code: &[u8], pc: usize, cells: &mut Vec<u16>) -> u16
+fn look_up(code: &[u8], pc: usize, cells: &mut Cells) -> u16
     requires switch { IsSwitchAt code.now pc }
-    requires top { 2 ≤ vec_len cells.old }
+    requires top { 2 ≤ length cells.old.items }
     ensures target { (rest : List ℕ) (low high : ℕ) (insn : MInsn) (rows : List SwitchRow) (size : ℕ)
         → cells.old.items ≡ rest ++ low ∷ high ∷ [] → HoldsAt code.now pc insn rows size
         → (cells.new.items ≡ rest) × (result ≡ target_in (default_of insn) rows (joined_cells low high)) }
-    ensures room { vec_capacity cells.old ≤ vec_capacity cells.new }
+    ensures room { cells.new.room ≡ cells.old.room }
 {
     let key = pop_number(cells);
     switch_target(code, pc, key)
 }
 
 /// Calls a native of the library: 1 write, 2 read, 3 print.
-fn native(cells: &mut Vec<u16>, method: u16) -> Turn
-    requires { Runs (CallS method) cells.old.items (vec_capacity cells.old) }
+fn native(cells: &mut Cells, method: u16) -> Turn
+    requires { Runs (CallS method) cells.old.items cells.old.room }
     ensures turn { (limits : Limits) (frame : Frame) (next : ℕ)
-        → AreCells cells.old.items frame.cells.locals frame.cells.operands → CanRun (CallS method) frame (vec_capacity cells.old)
+        → AreCells cells.old.items frame.cells.locals frame.cells.operands → CanRun (CallS method) frame cells.old.room
         → IsTurn limits frame next (λ state. step_call limits state frame [] next method) cells.new.items result }
-    ensures room { vec_capacity cells.old ≤ vec_capacity cells.new }
-    ensures follows { CanFollow result (vec_len cells.new) (vec_capacity cells.new) }
+    ensures room { cells.new.room ≡ cells.old.room }
+    ensures follows { CanFollow result (length cells.new.items) cells.new.room }
 {
     if method == WRITE {
         let number = pop_number(cells);
@@ -222,14 +232,15 @@ fn native(cells: &mut Vec<u16>, method: u16) -> Turn
 }
 
 /// Does what an instruction does to the cells, and answers the turn that control takes.
-pub(crate) fn execute(code: &[u8], pc: usize, insn: MInsn, cells: &mut Vec<u16>) -> Turn
+#[inline(always)]
+pub(crate) fn execute(code: &[u8], pc: usize, insn: MInsn, cells: &mut Cells) -> Turn
     requires found { IsFound code.now pc insn }
-    requires runs { Runs insn cells.old.items (vec_capacity cells.old) }
+    requires runs { Runs insn cells.old.items cells.old.room }
     ensures turn { (limits : Limits) (frame : Frame) (next : ℕ)
-        → AreCells cells.old.items frame.cells.locals frame.cells.operands → CanRun insn frame (vec_capacity cells.old)
+        → AreCells cells.old.items frame.cells.locals frame.cells.operands → CanRun insn frame cells.old.room
         → IsTurn limits frame next (λ state. step_insn limits state frame [] next insn (rows_at insn (drop pc code.now))) cells.new.items result }
-    ensures room { vec_capacity cells.old ≤ vec_capacity cells.new }
-    ensures follows { CanFollow result (vec_len cells.new) (vec_capacity cells.new) }
+    ensures room { cells.new.room ≡ cells.old.room }
+    ensures follows { CanFollow result (length cells.new.items) cells.new.room }
 {
     match insn {
         MInsn::Const2 { value } => push_number(cells, value),

@@ -9,6 +9,7 @@ use Rattle.cell_num.specs.Cells.{sign_extended, low_cell, high_cell, joined_cell
 use Rattle.cell_num.specs.Conversions.{converted}
 use Rattle.cell_num.specs.Arithmetic.{applied}
 use Rattle.cell_num.specs.Conditions.{is_met}
+use Rattle.dialogue.specs.Answers.{Answers}
 use Rattle.dialogue.specs.Dialogue.{Get, putting}
 use Rattle.dialogue.specs.Limits.{Limits}
 use Rattle.dialogue.specs.Natives.{low_byte, next_byte, after_byte}
@@ -167,8 +168,8 @@ step_read limits state frame others next =
     within_budget limits state
     (Goes (Get ∷ [])
     (record (ticked state) {
-      frames = at_cells frame next frame.cells.locals (with_number (next_byte state.input) frame.cells.operands) ∷ others;
-      input = after_byte state.input;
+      frames = at_cells frame next frame.cells.locals (with_number (next_byte state.answers) frame.cells.operands) ∷ others;
+      answers = after_byte state.answers;
     }))
 
 -- the natives of the library: 1 write, 2 read, 3 print
@@ -231,7 +232,7 @@ step_frames image limits state (frame ∷ others) = step_code limits state frame
 
 -- the machine of an image with limits
 abbrev pub machine : Image → Limits → run.Machine State Ending
-machine image limits = record { step = λ state. step_frames image limits state state.frames; left = λ state. state.input }
+machine image limits = record { step = λ state. step_frames image limits state state.frames; left = λ state. state.answers }
 
 -- ---- the limited run
 
@@ -248,29 +249,29 @@ first_frame id method =
       cells = record { locals = replicate method.cell_locals 0; operands = [] };
     }
 
--- the initial statics, no objects, all of the input, no ticks
-abbrev pub start_with : Image → List Frame → List ℕ → State
-start_with image frames input =
+-- the initial statics, no objects, all of the answers, no ticks
+abbrev pub start_with : Image → List Frame → Answers → State
+start_with image frames answers =
     record {
       frames = frames;
       objects = [];
       ref_statics = replicate image.static_refs None;
       cell_statics = image.static_cells;
-      input = input;
+      answers = answers;
       ticks = 0;
       used = 0;
     }
 
 -- main's frame is tested first, with no cell in use
-abbrev pub start_main : Image → Limits → List ℕ → Option Method → Progress State Ending
-start_main image limits input None = Running [] (start_with image [] input)
-start_main image limits input (Some main) =
-    if nat_le (frame_cells main) limits.stack then Running [] (start_with image (first_frame image.main main ∷ []) input)
-    else Over [] (start_with image [] input) (StackWanted (frame_cells main) 0)
+abbrev pub start_main : Image → Limits → Answers → Option Method → Progress State Ending
+start_main image limits answers None = Running [] (start_with image [] answers)
+start_main image limits answers (Some main) =
+    if nat_le (frame_cells main) limits.stack then Running [] (start_with image (first_frame image.main main ∷ []) answers)
+    else Over [] (start_with image [] answers) (StackWanted (frame_cells main) 0)
 
-abbrev pub start_of : Image → Limits → List ℕ → Progress State Ending
-start_of image limits input = start_main image limits input (method_of image image.main)
+abbrev pub start_of : Image → Limits → Answers → Progress State Ending
+start_of image limits answers = start_main image limits answers (method_of image image.main)
 
--- the limited run of the image on this input ends so
-abbrev pub LimitedSo : Image → Limits → List ℕ → Outcome Ending → Type 0
-LimitedSo image limits input outcome = EndsSo (machine image limits) (start_of image limits input) outcome
+-- the limited run of the image on these answers ends so
+abbrev pub LimitedSo : Image → Limits → Answers → Outcome Ending → Type 0
+LimitedSo image limits answers outcome = EndsSo (machine image limits) (start_of image limits answers) outcome

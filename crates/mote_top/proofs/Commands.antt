@@ -1,12 +1,12 @@
 -- Words are one command at most.
-use Rattle.std.proofs.Common.{◌≡◌, ◌≢◌, ℕ, ◌<◌, ◌^◌, ◌+◌, ◌≤◌, List, [], ◌∷◌, ◌++◌, Option, Some, None, take, drop, inl, inr, refl, sym, ap, subst, ◌∙◌, append_assoc, take-append-drop, arith}
-use Rattle.std.specs.Prelude.{codes, decimal}
+use Rattle.std.proofs.Common.{◌≡◌, ℕ, ◌<◌, ◌^◌, ◌+◌, ◌≤◌, List, ◌++◌, Option, Some, None, take, drop, inl, inr, refl, sym, ap, subst, ◌∙◌, append_assoc, take-append-drop, arith}
+use Rattle.std.specs.Prelude.{decimal}
 use Rattle.std.proofs.lemmas.Fmt.{decimal_injective}
 use Rattle.std.proofs.lemmas.List.{take-take}
 use Rattle.std.proofs.lemmas.Bool.{cases_lt}
-use Rattle.mote_top.specs.declared.words.Command.{Command}
+use Rattle.dialogue.specs.Limits.{Limits}
 use Rattle.mote_top.specs.declared.words.Command.TheVariants.{Infuse, Run, Go}
-use Rattle.mote_top.specs.Words.{IsName, option_words, infuse_of, run_of, go_of, class_place, ticks_of, default_ticks, FitsOption, IsCommand, Begins, FaultsAt}
+use Rattle.mote_top.specs.Words.{IsName, infuse_of, run_of, go_of, class_place, opts_of, limits_of, FitsOption, IsCommand, Begins, FaultsAt}
 
 -- ---- one place
 
@@ -33,14 +33,14 @@ one_slot words p q a b =
 
 -- ---- the commands
 
-pub go_command : (words : List (List ℕ)) (option : Option ℕ) (name : List ℕ) → words ≡ go_of option name → IsName name → FitsOption option → IsCommand words (Go (ticks_of option) (class_place option))
-go_command words option name are is_name fits = record { name = name; option = option; words_are = are; is_name = is_name; fits = fits; ticks_are = refl; class_is = refl }
+pub go_command : (words : List (List ℕ)) (option : Option ℕ) (name : List ℕ) → words ≡ go_of option name → IsName name → FitsOption option → IsCommand words (Go (opts_of option) (class_place option))
+go_command words option name are is_name fits = record { name = name; option = option; words_are = are; is_name = is_name; fits = fits; opts_are = refl; first_is = refl }
 
-pub run_command : (words : List (List ℕ)) (name : List ℕ) (option : Option ℕ) → words ≡ run_of name option → IsName name → FitsOption option → IsCommand words (Run 1 (ticks_of option))
-run_command words name option are is_name fits = record { name = name; option = option; words_are = are; is_name = is_name; fits = fits; infusion_is = refl; ticks_are = refl }
+pub run_command : (words : List (List ℕ)) (name : List ℕ) (option : Option ℕ) → words ≡ run_of name option → IsName name → FitsOption option → IsCommand words (Run 1 (opts_of option))
+run_command words name option are is_name fits = record { name = name; option = option; words_are = are; is_name = is_name; fits = fits; name_is = refl; opts_are = refl }
 
 pub infuse_command : (words : List (List ℕ)) (out class : List ℕ) → words ≡ infuse_of out class → IsName out → IsName class → IsCommand words (Infuse 1 2)
-infuse_command words out class are is_out is_class = record { out_name = out; class_name = class; words_are = are; is_out = is_out; is_class = is_class; out_is = refl; class_is = refl }
+infuse_command words out class are is_out is_class = record { out_name = out; class_name = class; words_are = are; is_out = is_out; is_class = is_class; out_is = refl; first_is = refl }
 
 -- ---- one command
 
@@ -60,14 +60,17 @@ one_infuse out class other second e = let a : out ≡ other = cc in let b : clas
 same_ticks : (a b : ℕ) → a < 2 ^ 64 → b < 2 ^ 64 → decimal a ≡ decimal b → a ≡ b
 same_ticks a b x y e = decimal_injective a b x y e
 
-pub one_go : (a b : Option ℕ) (name other : List ℕ) → FitsOption a → FitsOption b → go_of a name ≡ go_of b other → (name ≡ other) × (ticks_of a ≡ ticks_of b)
+abbrev limits_with : ℕ → Limits
+limits_with ticks = limits_of (Some ticks)
+
+pub one_go : (a b : Option ℕ) (name other : List ℕ) → FitsOption a → FitsOption b → go_of a name ≡ go_of b other → (name ≡ other) × (limits_of a ≡ limits_of b)
 one_go None None name other x y e = let n : name ≡ other = cc in (n, refl)
 one_go None (Some b) name other x y e = absurd cc
 one_go (Some a) None name other x y e = absurd cc
-one_go (Some a) (Some b) name other x y e = let n : name ≡ other = cc in let d : decimal a ≡ decimal b = cc in (n, same_ticks a b x y d)
+one_go (Some a) (Some b) name other x y e = let n : name ≡ other = cc in let d : decimal a ≡ decimal b = cc in (n, ap limits_with (same_ticks a b x y d))
 
-pub one_run : (a b : Option ℕ) (name other : List ℕ) → FitsOption a → FitsOption b → run_of name a ≡ run_of other b → (name ≡ other) × (ticks_of a ≡ ticks_of b)
+pub one_run : (a b : Option ℕ) (name other : List ℕ) → FitsOption a → FitsOption b → run_of name a ≡ run_of other b → (name ≡ other) × (limits_of a ≡ limits_of b)
 one_run None None name other x y e = let n : name ≡ other = cc in (n, refl)
 one_run None (Some b) name other x y e = absurd cc
 one_run (Some a) None name other x y e = absurd cc
-one_run (Some a) (Some b) name other x y e = let n : name ≡ other = cc in let d : decimal a ≡ decimal b = cc in (n, same_ticks a b x y d)
+one_run (Some a) (Some b) name other x y e = let n : name ≡ other = cc in let d : decimal a ≡ decimal b = cc in (n, ap limits_with (same_ticks a b x y d))

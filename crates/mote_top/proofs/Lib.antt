@@ -1,12 +1,14 @@
 pub mod Answering
 pub mod Causes
 pub mod Choices
-pub mod Clauses
 pub mod Commands
+pub mod Keeping
+pub mod Lasting
+pub mod SetLaws
 pub mod Notes
 pub mod Positions
 pub mod RunAnswers
-pub mod Runs
+pub mod Sets
 pub mod Stores
 pub mod WordFaults
 pub mod WordTests

@@ -4,11 +4,11 @@ use Rattle.std.proofs.lemmas.List.{take_more, map_push, map-append, flat_map_mor
 use Rattle.std.proofs.Math.Seq.{drop-cons}
 use Rattle.std.specs.List.{flat_map}
 use Rattle.std.proofs.lemmas.List.Concat.{flat_map-append}
-use Rattle.dialogue.specs.Dialogue.{Note, noting}
-use Rattle.mote_top.specs.Status.{blank_number, line}
+use Rattle.dialogue.specs.Dialogue.{Note, noting, gets, gets-noting}
 use Rattle.host_face.specs.declared.console.ConsoleFailed.{ConsoleFailed}
-use Rattle.host_face.specs.Talk.{Talked, BrokeOff, Says}
-use Rattle.host_face.proofs.TalkLemmas.{Talked-then, BrokeOff-prefix, BrokeOff-then, Says-then}
+use Rattle.host_face.specs.Talk.{without_first, Talked, BrokeOff, Says}
+use Rattle.host_face.proofs.TalkLemmas.{same-without, Talked-then, BrokeOff-prefix, BrokeOff-then, Says-then}
+use Rattle.mote_top.specs.Status.{blank_number, line}
 
 pub noting-append : (first second : List ℕ) → noting (first ++ second) ≡ noting first ++ noting second
 noting-append first second = map-append Note first second
@@ -22,18 +22,24 @@ noting-parts bytes i lt =
     ap noting parts ∙ noting-append (take i bytes) (get_or bytes i 0 ∷ drop (i + 1) bytes)
 
 -- notes in parts, where the first part broke off, and where the last call's result is returned
-module _ {C : Type 0} (shown noted : C → Option (List ℕ)) (faults : C → ℕ) (room : C → Option ℕ) where
-  pub Noting-prefix : (old new : C) (first second : List ℕ) → BrokeOff shown noted faults room old new (noting first) → BrokeOff shown noted faults room old new (noting (first ++ second))
-  Noting-prefix old new first second b = rw (noting-append first second) (BrokeOff-prefix shown noted faults room old new (noting first) (noting second) b)
+module _ {C : Type 0} (left shown noted : C → Option (List ℕ)) (faults : C → ℕ) (room : C → Option ℕ) where
+  asks_nothing : (old mid : C) (first : List ℕ) → left mid ≡ left old → left mid ≡ without_first (gets (noting first)) (left old)
+  asks_nothing old mid first same = same-without (noting first) (left old) (left mid) (gets-noting first) same
 
-  pub Noting-broke : (old mid new : C) (first second : List ℕ) → Talked shown noted faults room old mid (noting first) → BrokeOff shown noted faults room mid new (noting second) → BrokeOff shown noted faults room old new (noting (first ++ second))
-  Noting-broke old mid new first second a b = rw (noting-append first second) (BrokeOff-then shown noted faults room old mid new (noting first) (noting second) a b)
+  pub Noting-prefix : (old new : C) (first second : List ℕ) → BrokeOff left shown noted faults room old new (noting first) → BrokeOff left shown noted faults room old new (noting (first ++ second))
+  Noting-prefix old new first second b = rw (noting-append first second) (BrokeOff-prefix left shown noted faults room old new (noting first) (noting second) b)
+
+  pub Noting-broke : (old mid new : C) (first second : List ℕ) → left mid ≡ left old → Talked shown noted faults room old mid (noting first) → BrokeOff left shown noted faults room mid new (noting second) → BrokeOff left shown noted faults room old new (noting (first ++ second))
+  Noting-broke old mid new first second same a b =
+      rw (noting-append first second) (BrokeOff-then left shown noted faults room old mid new (noting first) (noting second) (asks_nothing old mid first same) a b)
 
   pub Noting-then : (old mid new : C) (first second : List ℕ) → Talked shown noted faults room old mid (noting first) → Talked shown noted faults room mid new (noting second) → Talked shown noted faults room old new (noting (first ++ second))
   Noting-then old mid new first second a b = rw (noting-append first second) (Talked-then shown noted faults room old mid new (noting first) (noting second) a b)
 
-  pub Noting-last : {T : Type 0} (old mid new : C) (first second : List ℕ) (result : Result T ConsoleFailed) → Talked shown noted faults room old mid (noting first) → Says shown noted faults room mid new (noting second) result → Says shown noted faults room old new (noting (first ++ second)) result
-  Noting-last old mid new first second result a b = rw (noting-append first second) (Says-then shown noted faults room old mid new (noting first) (noting second) result a b)
+  pub Noting-last : {T : Type 0} (old mid new : C) (first second : List ℕ) (result : Result T ConsoleFailed) → left mid ≡ left old → Talked shown noted faults room old mid (noting first) → Says left shown noted faults room mid new (noting second) result
+      → Says left shown noted faults room old new (noting (first ++ second)) result
+  Noting-last old mid new first second result same a b =
+      rw (noting-append first second) (Says-then left shown noted faults room old mid new (noting first) (noting second) result (asks_nothing old mid first same) a b)
 
 -- ---- a line
 

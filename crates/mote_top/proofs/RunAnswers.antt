@@ -1,18 +1,25 @@
 -- What the run of a mote answers is the reply of its image.
 use Rattle.std.proofs.Common.{◌≡◌, ℕ, List, Option, Some, None, refl, sym, ap, subst, ◌∙◌}
 use Rattle.std.specs.Prelude.{IfSome}
-use Rattle.dialogue.specs.Dialogue.{Item}
+use Rattle.dialogue.specs.Answers as gets
+use Rattle.dialogue.specs.Answers.{answers_of, bytes_of, MayGive, TellsLeft}
+use Rattle.dialogue.specs.Dialogue.{gets as gets_of}
 use Rattle.dialogue.specs.Outcome.{Outcome}
+use Rattle.dialogue.proofs.Inputs.{bytes_of-answers_of}
+use Rattle.host_face.specs.Talk.{without_first}
 use Rattle.image_form.specs.declared.record.Image.{Image}
 use Rattle.mote_model.specs.declared.ending.Ending.{Ending}
 use Rattle.mote_model.specs.declared.ending.Ending.TheVariants.{Done, Uncaught, Spent, HeapWanted, StackWanted, ConsoleFault, Misfit}
+use Rattle.mote_model.specs.Machine.{LimitedSo}
 use Rattle.mote_core.specs.Ready.{Ready, limits_of}
 use Rattle.mote_core.specs.Good.{IsStepEnding}
-use Rattle.mote_core.specs.Ran.{MayEnd, Ended, Failed, IsEndingSoFar, Ran}
-use Rattle.mote_top.specs.declared.status.Status.{Status}
+use Rattle.mote_core.specs.Ran as ran
+use Rattle.mote_core.specs.Ran.{MayEnd, Ended, IsEndingSoFar, Ran}
 use Rattle.mote_top.specs.Endings.{split_status}
-use Rattle.mote_top.specs.Reply as reply
-use Rattle.mote_top.specs.Reply.{Reply, RunsImage, OnInput, IsRunEnd, Replied, Answers, dialogue_of}
+use Rattle.mote_top.specs.Call.{Spoken, spoken}
+use Rattle.mote_top.specs.Reply.{Reply, RunsImage, IsRunEnd, dialogue_of, left_of}
+use Rattle.mote_top.specs.Answer.{Replied, Failed, Answers}
+use Rattle.mote_top.proofs.Answering.{said_of, broke_of}
 
 -- an ending so far has the status of a run's end, where the console did not fail
 abbrev IsEnd : Ending → Type 0
@@ -37,38 +44,55 @@ step_status image _ known = absurd known
 abbrev made : Image → Outcome Ending → Option (List ℕ) → Reply
 made image outcome left = record { status = split_status image outcome.ending; dialogue = outcome.dialogue; left = left }
 
-runs_so : (ready : Ready) (ticks : ℕ) (old now : Option (List ℕ)) (outcome : Outcome Ending) → MayEnd ready ticks old outcome → IfSome old (λ _. now ≡ Some outcome.left) → OnInput old (RunsImage ready.image (limits_of ready ticks)) (made ready.image outcome now)
-runs_so ready ticks None now outcome may same = tt
-runs_so ready ticks (Some input) now outcome may same = record { outcome = outcome; ends = may; is = ap (made ready.image outcome) same }
+-- the run, from answers that the console may give
+on_answers : (ready : Ready) (ticks : ℕ) (left : Option (List ℕ)) (outcome : Outcome Ending) → MayEnd ready ticks left outcome → (answers : gets.Answers) × MayGive left answers × LimitedSo ready.image (limits_of ready ticks) answers outcome
+on_answers ready ticks None outcome may = (may.0, tt, may.1)
+on_answers ready ticks (Some input) outcome may = (answers_of input, refl, may)
 
-fails_so : (ready : Ready) (ticks : ℕ) (old : Option (List ℕ)) (outcome : Outcome Ending) → MayEnd ready ticks old outcome → OnInput old (RunsImage ready.image (limits_of ready ticks)) (made ready.image outcome (Some outcome.left))
-fails_so ready ticks None outcome may = tt
-fails_so ready ticks (Some input) outcome may = record { outcome = outcome; ends = may; is = refl }
+-- what is left now is what the run leaves
+left_is : (old now : Option (List ℕ)) (count : ℕ) (answers : gets.Answers) → now ≡ without_first count old → IfSome old (λ _. TellsLeft now answers) → now ≡ left_of old answers
+left_is None now count answers rest tells = rest
+left_is (Some input) None count answers rest tells = absurd tells
+left_is (Some input) (Some bytes) count answers rest tells = ap (λ (b : List ℕ). Some b) (sym (bytes_of-answers_of bytes) ∙ ap bytes_of (sym tells))
+
+-- the run of the image, from what the run of the mote was
+image_ran : (ready : Ready) (ticks : ℕ) (old now : Option (List ℕ)) (outcome : Outcome Ending) → IsRunEnd (split_status ready.image outcome.ending) → MayEnd ready ticks old outcome → now ≡ left_of old outcome.left → RunsImage ready.image (limits_of ready ticks) old (made ready.image outcome now)
+image_ran ready ticks old now outcome status may same =
+    let on = on_answers ready ticks old outcome may in
+    record { status = status; answers = on.0; may = on.1; ends = record { outcome = outcome; ends = on.2; is = ap (made ready.image outcome) same } }
 
 module _ {C : Type 0} (left shown noted : C → Option (List ℕ)) (faults : C → ℕ) (room : C → Option ℕ) (ready : Ready) (ticks : ℕ) (old new : C) where
   abbrev May : Reply → Type 0
-  May r = OnInput (left old) (RunsImage ready.image (limits_of ready ticks)) r × IsRunEnd r.status
+  May reply = RunsImage ready.image (limits_of ready ticks) (left old) reply
 
-  ended : (ending : Ending) → IsEnd ending → Ended left shown noted faults room ready ticks old new ending → Replied left shown noted faults room dialogue_of May old new (split_status ready.image ending)
+  abbrev before : Spoken
+  before = spoken left shown noted faults room old
+
+  abbrev after : Spoken
+  after = spoken left shown noted faults room new
+
+  ended : (ending : Ending) → IsEnd ending → Ended left shown noted faults room ready ticks old new ending → Replied dialogue_of May before after (split_status ready.image ending)
   ended ending end e =
       record {
         reply = made ready.image e.outcome (left new);
-        may = (runs_so ready ticks (left old) (left new) e.outcome e.may e.same_left, subst (λ (x : Ending). IsRunEnd (split_status ready.image x)) e.same (end_status ready.image ending end));
+        may = image_ran ready ticks (left old) (left new) e.outcome (subst (λ (x : Ending). IsRunEnd (split_status ready.image x)) e.same (end_status ready.image ending end)) e.may
+            (left_is (left old) (left new) (gets_of e.outcome.dialogue) e.outcome.left e.rest e.same_left);
         same = ap (split_status ready.image) e.same;
-        talked = e.talked;
+        talked = said_of left shown noted faults room old new e.outcome.dialogue e.talked;
         same_left = refl;
+        rest = e.rest;
       }
 
-  failed : Failed left shown noted faults room ready ticks old new → reply.Failed shown noted faults room dialogue_of May old new
+  failed : ran.Failed left shown noted faults room ready ticks old new → Failed dialogue_of May before after
   failed f =
       record {
-        reply = made ready.image f.outcome (Some f.outcome.left);
-        may = (fails_so ready ticks (left old) f.outcome f.may, step_status ready.image f.outcome.ending f.known);
-        broke = f.broke;
+        reply = made ready.image f.outcome (left_of (left old) f.outcome.left);
+        may = image_ran ready ticks (left old) (left_of (left old) f.outcome.left) f.outcome (step_status ready.image f.outcome.ending f.known) f.may refl;
+        broke = broke_of left shown noted faults room old new f.outcome.dialogue f.broke;
       }
 
   -- the run answered this ending
-  pub run_answers : (ending : Ending) → IsEndingSoFar ending → Ran left shown noted faults room ready ticks old new ending → Answers left shown noted faults room dialogue_of May old new (split_status ready.image ending)
+  pub run_answers : (ending : Ending) → IsEndingSoFar ending → Ran left shown noted faults room ready ticks old new ending → Answers dialogue_of May before after (split_status ready.image ending)
   run_answers ConsoleFault so_far f = failed f
   run_answers Done so_far e = ended Done (no_fault_done, so_far) e
     where

@@ -3,7 +3,7 @@ use Rattle.std.proofs.Common.{◌≡◌, ◌≢◌, ℕ, ◌+◌, ◌<◌, ◌�
 use Rattle.std.specs.Prelude.{codes, decimal}
 use Rattle.mote_top.specs.declared.words.Command.{Command}
 use Rattle.mote_top.specs.declared.words.Command.TheVariants.{Infuse, Run, Go}
-use Rattle.mote_top.specs.Words.{IsName, option_words, infuse_of, run_of, go_of, ticks_of, default_ticks, IsCommand, FitsOption, Begins, FaultsAt}
+use Rattle.mote_top.specs.Words.{IsName, option_words, infuse_of, run_of, go_of, opts_of, IsCommand, FitsOption, Begins, FaultsAt}
 
 -- no command begins with these words
 abbrev pub NoneBegins : List (List ℕ) → Type 0
@@ -66,11 +66,11 @@ go_parts others (Infuse out class) is = absurd (apart is.words_are)
   where
     apart : codes "go" ∷ others ≡ infuse_of is.out_name is.class_name → ⊥
     apart e = cc
-go_parts others (Run infusion ticks) is = absurd (apart is.words_are)
+go_parts others (Run slot opts) is = absurd (apart is.words_are)
   where
     apart : codes "go" ∷ others ≡ run_of is.name is.option → ⊥
     apart e = cc
-go_parts others (Go ticks class) is = (is.name, is.option, rest is.words_are, is.is_name, is.fits)
+go_parts others (Go opts class) is = (is.name, is.option, rest is.words_are, is.is_name, is.fits)
   where
     rest : codes "go" ∷ others ≡ go_of is.option is.name → others ≡ option_words is.option ++ is.name ∷ []
     rest e = cc
@@ -80,11 +80,11 @@ run_parts others (Infuse out class) is = absurd (apart is.words_are)
   where
     apart : codes "run" ∷ others ≡ infuse_of is.out_name is.class_name → ⊥
     apart e = cc
-run_parts others (Go ticks class) is = absurd (apart is.words_are)
+run_parts others (Go opts class) is = absurd (apart is.words_are)
   where
     apart : codes "run" ∷ others ≡ go_of is.option is.name → ⊥
     apart e = cc
-run_parts others (Run infusion ticks) is = (is.name, is.option, rest is.words_are, is.is_name, is.fits)
+run_parts others (Run slot opts) is = (is.name, is.option, rest is.words_are, is.is_name, is.fits)
   where
     rest : codes "run" ∷ others ≡ run_of is.name is.option → others ≡ is.name ∷ option_words is.option
     rest e = cc
@@ -94,11 +94,11 @@ infuse_parts others (Infuse out class) is = (is.out_name, is.class_name, rest is
   where
     rest : codes "infuse" ∷ others ≡ infuse_of is.out_name is.class_name → others ≡ is.out_name ∷ is.class_name ∷ []
     rest e = cc
-infuse_parts others (Go ticks class) is = absurd (apart is.words_are)
+infuse_parts others (Go opts class) is = absurd (apart is.words_are)
   where
     apart : codes "infuse" ∷ others ≡ go_of is.option is.name → ⊥
     apart e = cc
-infuse_parts others (Run infusion ticks) is = absurd (apart is.words_are)
+infuse_parts others (Run slot opts) is = absurd (apart is.words_are)
   where
     apart : codes "infuse" ∷ others ≡ run_of is.name is.option → ⊥
     apart e = cc
@@ -109,11 +109,11 @@ first_word first others (Infuse out class) is a b c = a (same is.words_are)
   where
     same : first ∷ others ≡ infuse_of is.out_name is.class_name → first ≡ codes "infuse"
     same e = cc
-first_word first others (Run infusion ticks) is a b c = b (same is.words_are)
+first_word first others (Run slot opts) is a b c = b (same is.words_are)
   where
     same : first ∷ others ≡ run_of is.name is.option → first ≡ codes "run"
     same e = cc
-first_word first others (Go ticks class) is a b c = c (same is.words_are)
+first_word first others (Go opts class) is a b c = c (same is.words_are)
   where
     same : first ∷ others ≡ go_of is.option is.name → first ≡ codes "go"
     same e = cc
@@ -121,43 +121,43 @@ first_word first others (Go ticks class) is a b c = c (same is.words_are)
 -- ---- words that begin commands
 
 begins_none : Begins []
-begins_none = record { more = go_of None any_name; command = Go default_ticks 1; whole = record { name = any_name; option = None; words_are = refl; is_name = any_is_name; fits = tt; ticks_are = refl; class_is = refl } }
+begins_none = record { more = go_of None any_name; command = Go (opts_of None) 1; whole = record { name = any_name; option = None; words_are = refl; is_name = any_is_name; fits = tt; opts_are = refl; first_is = refl } }
 
 begins_infuse : Begins (codes "infuse" ∷ [])
-begins_infuse = record { more = any_name ∷ any_name ∷ []; command = Infuse 1 2; whole = record { out_name = any_name; class_name = any_name; words_are = refl; is_out = any_is_name; is_class = any_is_name; out_is = refl; class_is = refl } }
+begins_infuse = record { more = any_name ∷ any_name ∷ []; command = Infuse 1 2; whole = record { out_name = any_name; class_name = any_name; words_are = refl; is_out = any_is_name; is_class = any_is_name; out_is = refl; first_is = refl } }
 
 begins_infuse_out : (out : List ℕ) → IsName out → Begins (codes "infuse" ∷ out ∷ [])
-begins_infuse_out out is_out = record { more = any_name ∷ []; command = Infuse 1 2; whole = record { out_name = out; class_name = any_name; words_are = refl; is_out = is_out; is_class = any_is_name; out_is = refl; class_is = refl } }
+begins_infuse_out out is_out = record { more = any_name ∷ []; command = Infuse 1 2; whole = record { out_name = out; class_name = any_name; words_are = refl; is_out = is_out; is_class = any_is_name; out_is = refl; first_is = refl } }
 
 begins_infuse_class : (out class : List ℕ) → IsName out → IsName class → Begins (codes "infuse" ∷ out ∷ class ∷ [])
-begins_infuse_class out class is_out is_class = record { more = []; command = Infuse 1 2; whole = record { out_name = out; class_name = class; words_are = refl; is_out = is_out; is_class = is_class; out_is = refl; class_is = refl } }
+begins_infuse_class out class is_out is_class = record { more = []; command = Infuse 1 2; whole = record { out_name = out; class_name = class; words_are = refl; is_out = is_out; is_class = is_class; out_is = refl; first_is = refl } }
 
 begins_run : Begins (codes "run" ∷ [])
-begins_run = record { more = any_name ∷ []; command = Run 1 default_ticks; whole = record { name = any_name; option = None; words_are = refl; is_name = any_is_name; fits = tt; infusion_is = refl; ticks_are = refl } }
+begins_run = record { more = any_name ∷ []; command = Run 1 (opts_of None); whole = record { name = any_name; option = None; words_are = refl; is_name = any_is_name; fits = tt; name_is = refl; opts_are = refl } }
 
 begins_run_name : (name : List ℕ) → IsName name → Begins (codes "run" ∷ name ∷ [])
-begins_run_name name is_name = record { more = []; command = Run 1 default_ticks; whole = record { name = name; option = None; words_are = refl; is_name = is_name; fits = tt; infusion_is = refl; ticks_are = refl } }
+begins_run_name name is_name = record { more = []; command = Run 1 (opts_of None); whole = record { name = name; option = None; words_are = refl; is_name = is_name; fits = tt; name_is = refl; opts_are = refl } }
 
 begins_run_option : (name : List ℕ) → IsName name → Begins (codes "run" ∷ name ∷ codes "--ticks" ∷ [])
-begins_run_option name is_name = record { more = decimal 0 ∷ []; command = Run 1 0; whole = record { name = name; option = Some 0; words_are = refl; is_name = is_name; fits = omega arith; infusion_is = refl; ticks_are = refl } }
+begins_run_option name is_name = record { more = decimal 0 ∷ []; command = Run 1 (opts_of (Some 0)); whole = record { name = name; option = Some 0; words_are = refl; is_name = is_name; fits = omega arith; name_is = refl; opts_are = refl } }
 
 begins_run_ticks : (name : List ℕ) (ticks : ℕ) → IsName name → ticks < 2 ^ 64 → Begins (codes "run" ∷ name ∷ codes "--ticks" ∷ decimal ticks ∷ [])
-begins_run_ticks name ticks is_name fits = record { more = []; command = Run 1 ticks; whole = record { name = name; option = Some ticks; words_are = refl; is_name = is_name; fits = fits; infusion_is = refl; ticks_are = refl } }
+begins_run_ticks name ticks is_name fits = record { more = []; command = Run 1 (opts_of (Some ticks)); whole = record { name = name; option = Some ticks; words_are = refl; is_name = is_name; fits = fits; name_is = refl; opts_are = refl } }
 
 begins_go : Begins (codes "go" ∷ [])
-begins_go = record { more = any_name ∷ []; command = Go default_ticks 1; whole = record { name = any_name; option = None; words_are = refl; is_name = any_is_name; fits = tt; ticks_are = refl; class_is = refl } }
+begins_go = record { more = any_name ∷ []; command = Go (opts_of None) 1; whole = record { name = any_name; option = None; words_are = refl; is_name = any_is_name; fits = tt; opts_are = refl; first_is = refl } }
 
 begins_go_name : (name : List ℕ) → IsName name → Begins (codes "go" ∷ name ∷ [])
-begins_go_name name is_name = record { more = []; command = Go default_ticks 1; whole = record { name = name; option = None; words_are = refl; is_name = is_name; fits = tt; ticks_are = refl; class_is = refl } }
+begins_go_name name is_name = record { more = []; command = Go (opts_of None) 1; whole = record { name = name; option = None; words_are = refl; is_name = is_name; fits = tt; opts_are = refl; first_is = refl } }
 
 begins_go_option : Begins (codes "go" ∷ codes "--ticks" ∷ [])
-begins_go_option = record { more = decimal 0 ∷ any_name ∷ []; command = Go 0 3; whole = record { name = any_name; option = Some 0; words_are = refl; is_name = any_is_name; fits = omega arith; ticks_are = refl; class_is = refl } }
+begins_go_option = record { more = decimal 0 ∷ any_name ∷ []; command = Go (opts_of (Some 0)) 3; whole = record { name = any_name; option = Some 0; words_are = refl; is_name = any_is_name; fits = omega arith; opts_are = refl; first_is = refl } }
 
 begins_go_ticks : (ticks : ℕ) → ticks < 2 ^ 64 → Begins (codes "go" ∷ codes "--ticks" ∷ decimal ticks ∷ [])
-begins_go_ticks ticks fits = record { more = any_name ∷ []; command = Go ticks 3; whole = record { name = any_name; option = Some ticks; words_are = refl; is_name = any_is_name; fits = fits; ticks_are = refl; class_is = refl } }
+begins_go_ticks ticks fits = record { more = any_name ∷ []; command = Go (opts_of (Some ticks)) 3; whole = record { name = any_name; option = Some ticks; words_are = refl; is_name = any_is_name; fits = fits; opts_are = refl; first_is = refl } }
 
 begins_go_class : (ticks : ℕ) (name : List ℕ) → ticks < 2 ^ 64 → IsName name → Begins (codes "go" ∷ codes "--ticks" ∷ decimal ticks ∷ name ∷ [])
-begins_go_class ticks name fits is_name = record { more = []; command = Go ticks 3; whole = record { name = name; option = Some ticks; words_are = refl; is_name = is_name; fits = fits; ticks_are = refl; class_is = refl } }
+begins_go_class ticks name fits is_name = record { more = []; command = Go (opts_of (Some ticks)) 3; whole = record { name = name; option = Some ticks; words_are = refl; is_name = is_name; fits = fits; opts_are = refl; first_is = refl } }
 
 -- ---- the faults
 
@@ -175,8 +175,8 @@ item_is_none b bs e = cc
 
 no_words : (command : Command) → IsCommand [] command → ⊥
 no_words (Infuse out class) is = no_item (codes "infuse") (is.out_name ∷ is.class_name ∷ []) is.words_are
-no_words (Run infusion ticks) is = no_item (codes "run") (is.name ∷ option_words is.option) is.words_are
-no_words (Go ticks class) is = no_item (codes "go") (option_words is.option ++ is.name ∷ []) is.words_are
+no_words (Run slot opts) is = no_item (codes "run") (is.name ∷ option_words is.option) is.words_are
+no_words (Go opts class) is = no_item (codes "go") (option_words is.option ++ is.name ∷ []) is.words_are
 
 pub faults_none : FaultsAt [] 0
 faults_none = faults_at_end [] begins_none no_words

@@ -14,7 +14,7 @@ use Rattle.mote_top.specs.declared.status.ImageCause.{ImageCause}
 use Rattle.mote_top.specs.declared.status.ImageCause.TheVariants as image
 use Rattle.mote_top.specs.declared.status.ImageRefusal.{ImageRefusal}
 use Rattle.mote_top.specs.declared.status.Status.{Status}
-use Rattle.mote_top.specs.declared.status.Status.TheVariants.{Done, Uncaught, Spent, HeapWanted, StackWanted, ConsoleFault, Misfit, Memory}
+use Rattle.mote_top.specs.declared.status.Status.TheVariants.{Done, Uncaught, Spent, HeapWanted, StackWanted, ConsoleFault, Misfit}
 
 -- the status of an ending on the typed machine
 abbrev pub typed_status : typed.Ending → Status

@@ -1,69 +1,88 @@
--- The words of the headline: a command on what is kept, and what its run shows.
-use Rattle.std.specs.Prelude.{◌≡◌, ℕ, List, Option, Some, ◌++◌, ◌⊎◌, slice_get}
+-- The words of what a call promises.
+use Rattle.std.specs.Prelude.{◌≡◌, ℕ, ◌≤◌, ◌⊎◌, List, [], ◌∷◌, ◌++◌, Option, Some, None, slice_get}
 use Rattle.std.specs.FinMap.{get, insert}
+use Rattle.dialogue.specs.Answers as gets
+use Rattle.dialogue.specs.Answers.{MayGive}
 use Rattle.dialogue.specs.Dialogue.{Item, puts, notes}
+use Rattle.dialogue.specs.Limits.{Limits}
 use Rattle.dialogue.specs.Outcome.{Outcome}
+use Rattle.host_face.specs.Console.{FillsRoom}
 use Rattle.host_face.specs.Faults.{Rose}
-use Rattle.host_face.specs.Shelf.{Files}
+use Rattle.host_face.specs.Shelf.{Files, NeverFell, ChangesOnly}
 use Rattle.host_face.specs.Talk.{with_bytes}
-use Rattle.class_file.specs.declared.record.ClassFile.{ClassFile}
-use Rattle.class_file.specs.declared.record.CodeAttr.{CodeAttr}
 use Rattle.image_form.specs.declared.record.Image.{Image}
 use Rattle.image_form.specs.Format.{encoding}
-use Rattle.jvm_model.specs.Program.{Program}
-use Rattle.jvm_model.specs.Machine as typed
-use Rattle.jvm_model.specs.Body.{Body}
-use Rattle.jvm_model.specs.ProgramOf.{program_of}
-use Rattle.jvm_model.specs.FrameCells.{frame_cells}
-use Rattle.jvm_model.specs.ImageOf.{image_of}
 use Rattle.mote_model.specs.declared.ending.Ending.{Ending}
 use Rattle.mote_model.specs.Machine.{LimitedSo}
+use Rattle.jvm_model.specs.Machine as typed
+use Rattle.jvm_model.specs.SetImage.{IsImageOf}
+use Rattle.jvm_model.specs.SetRun.{LimitedRun}
+use Rattle.jvm_model.specs.Verdict.{Accepted}
+use Rattle.mote_top.specs.declared.status.ImageRefusal.{ImageRefusal}
 use Rattle.mote_top.specs.declared.status.Status.{Status}
-use Rattle.mote_top.specs.declared.status.Status.TheVariants.{Done, Uncaught, Words, Refused, Infusion, Spent, HeapWanted, StackWanted, ConsoleFault, ShelfFault, Misfit, Memory}
-use Rattle.mote_top.specs.Words.{IsName, infuse_of, run_of, go_of, ticks_of, FitsOption}
+use Rattle.mote_top.specs.declared.status.Status.TheVariants.{Done, Infusion, ConsoleFault, ShelfFault, Memory}
+use Rattle.mote_top.specs.Words.{IsName, infuse_of, run_of, go_of, limits_of, FitsOption}
 use Rattle.mote_top.specs.Status.{note_of}
 use Rattle.mote_top.specs.Endings.{typed_status, split_status}
-use Rattle.mote_top.specs.Reply.{Shelved, limits_of}
+use Rattle.mote_top.specs.Call.{Shelved, Call, After}
+use Rattle.mote_top.specs.Answer.{Answers, Untouched}
+use Rattle.mote_top.specs.Reply.{HasAt, IsNoInfusion, IsInfusion, Loads, MayReply, all_said, left_of}
 
--- ---- commands on what is kept
+-- ---- what a call is
 
--- the words are go with this budget of ticks, these bytes are kept at the name, and this input is left, all
--- of it told
-pub record GoesOn (words : List (List ℕ)) (kept : Option Files) (left : Option (List ℕ)) (ticks : ℕ) (bytes input : List ℕ) : Type 0 where
-  pub files : Files
-  pub name : List ℕ
+-- the words are go, and what is kept at the name is this set
+pub record GoesOn (call : Call) (files : List (List ℕ)) (limits : Limits) : Type 0 where
+  pub kept : Files
+  pub tells : call.shelf.kept ≡ Some kept
   pub option : Option ℕ
-  pub tells_kept : kept ≡ Some files
-  pub tells_left : left ≡ Some input
-  pub command : words ≡ go_of option name
+  pub name : List ℕ
+  pub command : call.words ≡ go_of option name
   pub is_name : IsName name
   pub fits : FitsOption option
-  pub ticks_are : ticks ≡ ticks_of option
-  pub found : get files name ≡ Some bytes
+  pub limits_are : limits ≡ limits_of option
+  pub bytes : List ℕ
+  pub files_are : files ≡ bytes ∷ []
+  pub found : get kept name ≡ Some bytes
 
--- the same of run, whose name has an infusion
-pub record RunsOn (words : List (List ℕ)) (kept : Option Files) (left : Option (List ℕ)) (ticks : ℕ) (bytes input : List ℕ) : Type 0 where
-  pub files : Files
-  pub name : List ℕ
+-- the words are run, and these bytes are kept at the name
+pub record RunsOn (call : Call) (bytes : List ℕ) (limits : Limits) : Type 0 where
+  pub kept : Files
+  pub tells : call.shelf.kept ≡ Some kept
   pub option : Option ℕ
-  pub tells_kept : kept ≡ Some files
-  pub tells_left : left ≡ Some input
-  pub command : words ≡ run_of name option
+  pub name : List ℕ
+  pub command : call.words ≡ run_of name option
   pub is_name : IsName name
   pub fits : FitsOption option
-  pub ticks_are : ticks ≡ ticks_of option
-  pub found : get files name ≡ Some bytes
+  pub limits_are : limits ≡ limits_of option
+  pub found : get kept name ≡ Some bytes
 
--- the words are infuse to this name, and these bytes are kept at the class's name
-pub record InfusesTo (words : List (List ℕ)) (kept : Option Files) (files : Files) (out bytes : List ℕ) : Type 0 where
+-- the words are run of the infusion of this set
+pub record RunsInfusionOf (call : Call) (files : List (List ℕ)) (limits : Limits) : Type 0 where
+  pub image : Image
+  pub is_image : IsImageOf files image
+  pub runs : RunsOn call (encoding image) limits
+
+-- the words are infuse to this name, and what is kept at the class's name is this set
+pub record InfusesTo (call : Call) (files : List (List ℕ)) (out : List ℕ) : Type 0 where
+  pub kept : Files
+  pub tells : call.shelf.kept ≡ Some kept
   pub class : List ℕ
-  pub tells_kept : kept ≡ Some files
-  pub command : words ≡ infuse_of out class
+  pub command : call.words ≡ infuse_of out class
   pub is_out : IsName out
   pub is_class : IsName class
-  pub found : get files class ≡ Some bytes
+  pub bytes : List ℕ
+  pub files_are : files ≡ bytes ∷ []
+  pub found : get kept class ≡ Some bytes
 
--- ---- answers
+-- the words run this set: go of its files, or run of its infusion
+abbrev pub RunsSet : Call → List (List ℕ) → Limits → Type 0
+RunsSet call files limits = GoesOn call files limits ⊎ RunsInfusionOf call files limits
+
+-- the words load this set: go, or infuse
+abbrev pub LoadsSet : Call → List (List ℕ) → Type 0
+LoadsSet call files = ((limits : Limits) × GoesOn call files limits) ⊎ ((out : List ℕ) × InfusesTo call files out)
+
+-- ---- what stands after it
 
 -- neither the outside nor memory failed
 abbrev pub IsAnswer : Status → Type 0
@@ -72,43 +91,110 @@ IsAnswer (ShelfFault word) = ⊥
 IsAnswer Memory = ⊥
 IsAnswer _ = Unit {0}
 
--- the first status, unless the console or memory failed
-abbrev pub IsUnless : Status → Status → Type 0
-IsUnless status ConsoleFault = Unit {0}
-IsUnless status Memory = Unit {0}
-IsUnless status result = result ≡ status
+-- the status, the input left and what is kept are those of a reply that the call may give, and all of it
+-- was said, or what the status says
+pub record IsReplied (call : Call) (after : After) : Type 0 where
+  pub limits : Limits
+  pub answers : Answers (all_said limits) (MayReply call after.shelf limits) call.console after.console after.status
 
--- the status's own note follows the notes of a dialogue, and the console shows the dialogue's puts and
--- has this input left
-pub record ShowsAll {C : Type 0} (left shown noted : C → Option (List ℕ)) (old new : C) (dialogue : List Item) (rest : List ℕ) (status : Status) : Type 0 where
-  pub puts_shown : shown new ≡ with_bytes (puts dialogue) (shown old)
-  pub notes_noted : noted new ≡ with_bytes (notes dialogue ++ note_of status) (noted old)
-  pub input_left : left new ≡ Some rest
+-- a run with this dialogue, which left this input, where that is told, and ended with this status, is what is told
+pub record Shows (call : Call) (after : After) (limits : Limits) (dialogue : List Item) (rest : Option (List ℕ)) (status : Status) : Type 0 where
+  pub status_is : after.status ≡ status
+  pub puts_shown : after.console.shown ≡ with_bytes (puts dialogue) call.console.shown
+  pub notes_noted : after.console.noted ≡ with_bytes (notes dialogue ++ note_of limits status) call.console.noted
+  pub input_left : after.console.left ≡ rest
 
--- the limited run of the class file on the typed machine ends so, and all of it is shown
-pub record ShowsRun {C : Type 0} (left shown noted : C → Option (List ℕ)) (old new : C) (file : ClassFile) (code : CodeAttr) (body : Body) (ticks : ℕ) (input : List ℕ) (status : Status) : Type 0 where
+-- the limited run of the set on some answers to its gets is what is told
+pub record ShowsSome (call : Call) (after : After) (files : List (List ℕ)) (limits : Limits) : Type 0 where
+  pub answers : gets.Answers
   pub outcome : Outcome typed.Ending
-  pub ends : typed.LimitedSo (program_of file) (frame_cells code.max_locals body) (limits_of ticks) input outcome
-  pub status_is : status ≡ typed_status outcome.ending
-  pub shows : ShowsAll left shown noted old new outcome.dialogue outcome.left status
+  pub ends : LimitedRun files limits answers outcome
+  pub shows : Shows call after limits outcome.dialogue None (typed_status outcome.ending)
 
--- the limited run of the image on the split machine ends so, and all of it is shown
-pub record ShowsImage {C : Type 0} (left shown noted : C → Option (List ℕ)) (old new : C) (image : Image) (ticks : ℕ) (input : List ℕ) (status : Status) : Type 0 where
+-- the limited run of the image on the split machine ends, and is what is told
+pub record ShowsImage (call : Call) (after : After) (limits : Limits) (image : Image) (answers : gets.Answers) : Type 0 where
   pub outcome : Outcome Ending
-  pub ends : LimitedSo image (limits_of ticks) input outcome
-  pub status_is : status ≡ split_status image outcome.ending
-  pub shows : ShowsAll left shown noted old new outcome.dialogue outcome.left status
+  pub ends : LimitedSo image limits answers outcome
+  pub shows : Shows call after limits outcome.dialogue (left_of call.console.left outcome.left) (split_status image outcome.ending)
 
--- the infusion of the class file is kept at the name now, and all other names keep what they had
-pub record StoresImage (files : Files) (out : List ℕ) (now : Option Files) (file : ClassFile) (code : CodeAttr) (body : Body) (status : Status) : Type 0 where
-  pub done : status ≡ Done
-  pub stored : now ≡ Some (insert files out (encoding (image_of file code body)))
+-- the bytes are the encoding of a checked image, which ran: on its input where that is told, else each get gave
+-- any byte or the end
+pub record RanInfusion (call : Call) (after : After) (bytes : List ℕ) (limits : Limits) : Type 0 where
+  pub image : Image
+  pub infusion : IsInfusion bytes image
+  pub answers : gets.Answers
+  pub may : MayGive call.console.left answers
+  pub shows : ShowsImage call after limits image answers
 
--- ---- faults
+-- the status says why the bytes are no infusion
+pub record SaysNoInfusion (bytes : List ℕ) (status : Status) : Type 0 where
+  pub refusal : ImageRefusal
+  pub status_is : status ≡ Infusion refusal
+  pub none : IsNoInfusion bytes refusal
 
--- the word at a place is a name of which loads failed since, or, of infuse, stores
-abbrev pub ShelfFailed : List (List ℕ) → (before after : Shelved) → ℕ → Type 0
-ShelfFailed words before after word =
-    (name : List ℕ) × (slice_get words word ≡ Some name)
-    × (Rose (before.load_faults name) (after.load_faults name)
-    ⊎ ((word ≡ 1) × (class : List ℕ) × (words ≡ infuse_of name class) × Rose (before.store_faults name) (after.store_faults name)))
+-- the infusion of the set is kept at the name now, and all other names keep what they had
+pub record StoresInfusion (call : Call) (after : After) (files : List (List ℕ)) (out : List ℕ) : Type 0 where
+  pub done : after.status ≡ Done
+  pub image : Image
+  pub is_image : IsImageOf files image
+  pub kept : Files
+  pub tells : call.shelf.kept ≡ Some kept
+  pub stored : after.shelf.kept ≡ Some (insert kept out (encoding image))
+
+-- ---- causes
+
+-- the words store at this name, which is at place 1
+abbrev pub Stores : List (List ℕ) → List ℕ → ℕ → Type 0
+Stores words name place = (place ≡ 1) × (class : List ℕ) × (words ≡ infuse_of name class)
+
+-- in this call the shelf failed for the name at this place: a store where the words store at it, else a load
+pub record ShelfFailed (call : Call) (after : After) (word : ℕ) : Type 0 where
+  pub name : List ℕ
+  pub there : slice_get call.words word ≡ Some name
+  pub rose : (Stores call.words name word × Rose (call.shelf.store_faults name) (after.shelf.store_faults name))
+      ⊎ (Loads call.words name word × Rose (call.shelf.load_faults name) (after.shelf.load_faults name))
+
+-- in this call the console failed: where it tells its room, that was full
+pub record ConsoleFailed (call : Call) (after : After) : Type 0 where
+  pub rose : Rose call.console.faults after.console.faults
+  pub full : FillsRoom call.console.room after.console.shown ⊎ FillsRoom call.console.room after.console.noted
+
+-- why a call failed; where there was no memory, nothing was read, shown or noted
+abbrev pub HasCause : Call → After → Status → Type 0
+HasCause call after (ShelfFault word) = ShelfFailed call after word
+HasCause call after ConsoleFault = ConsoleFailed call after
+HasCause call after Memory = Untouched call.console after.console
+HasCause call after _ = Unit {0}
+
+-- ---- what stays
+
+-- the words are infuse of an accepted set, and the shelf changed what it keeps at its name alone
+pub record ChangesOut (words : List (List ℕ)) (kept now : Option Files) : Type 0 where
+  pub out : List ℕ
+  pub class : List ℕ
+  pub command : words ≡ infuse_of out class
+  pub bytes : List ℕ
+  pub found : HasAt kept class bytes
+  pub accepted : Accepted (bytes ∷ [])
+  pub others : ChangesOnly out kept now
+
+-- only infuse of an accepted set changes what is kept, and only at its name
+abbrev pub ChangesOwn : List (List ℕ) → (kept now : Option Files) → Type 0
+ChangesOwn words kept now = (now ≡ kept) ⊎ ChangesOut words kept now
+
+-- no count of the shelf fell
+pub record KeepsShelf (words : List (List ℕ)) (before after : Shelved) : Type 0 where
+  pub kept : ChangesOwn words before.kept after.kept
+  pub loads : NeverFell before.load_faults after.load_faults
+  pub stores : NeverFell before.store_faults after.store_faults
+
+pub record Stays (call : Call) (after : After) : Type 0 where
+  pub shelf : KeepsShelf call.words call.shelf after.shelf
+  pub faults : call.console.faults ≤ after.console.faults
+  pub room : after.console.room ≡ call.console.room
+
+-- no count of faults rose in the call
+pub record NoneRose (call : Call) (after : After) : Type 0 where
+  pub loads : (name : List ℕ) → Rose (call.shelf.load_faults name) (after.shelf.load_faults name) → ⊥
+  pub stores : (name : List ℕ) → Rose (call.shelf.store_faults name) (after.shelf.store_faults name) → ⊥
+  pub console : Rose call.console.faults after.console.faults → ⊥

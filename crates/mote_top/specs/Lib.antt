@@ -1,5 +1,9 @@
+pub mod Call
 pub mod Words
 pub mod Status
 pub mod Endings
 pub mod Reply
+pub mod Answer
+pub mod Storing
 pub mod Headline
+pub mod Promises

@@ -1,19 +1,15 @@
 -- The statuses: their codes and their note lines.
 use Rattle.std.specs.Prelude.{ℕ, Bool, true, false, List, [], ◌∷◌, ◌++◌, codes, decimal}
 use Rattle.std.specs.List.{flat_map}
+use Rattle.dialogue.specs.Limits.{Limits}
 use Rattle.jvm_model.specs.declared.refusal.Cause.{Cause}
 use Rattle.jvm_model.specs.declared.refusal.Cause.TheVariants as causes
+use Rattle.jvm_model.specs.declared.refusal.Refusal.{Refusal}
 use Rattle.mote_top.specs.declared.status.ImageCause.{ImageCause}
 use Rattle.mote_top.specs.declared.status.ImageCause.TheVariants as image
+use Rattle.mote_top.specs.declared.status.ImageRefusal.{ImageRefusal}
 use Rattle.mote_top.specs.declared.status.Status.{Status}
 use Rattle.mote_top.specs.declared.status.Status.TheVariants.{Done, Uncaught, Words, Refused, Infusion, Spent, HeapWanted, StackWanted, ConsoleFault, ShelfFault, Misfit, Memory}
-
--- the cells of the heap and of the stack
-abbrev pub default_heap : ℕ
-default_heap = 4096
-
-abbrev pub default_stack : ℕ
-default_stack = 1024
 
 abbrev pub code_of : Status → ℕ
 code_of Done = 0
@@ -68,20 +64,27 @@ image_word image.Crosses = codes "crosses"
 image_word image.Falls = codes "falls"
 image_word image.Unbuilt = codes "unbuilt"
 
--- what is noted at the end of a call
-abbrev pub note_of : Status → List ℕ
-note_of Done = []
-note_of (Uncaught class) = codes "uncaught " ++ (class ++ 10 ∷ [])
-note_of (Words place) = line (codes "words") (place ∷ [])
-note_of (Refused refusal) = codes "refused " ++ line (cause_word refusal.cause) (refusal.file ∷ refusal.member ∷ refusal.pc ∷ refusal.value ∷ [])
-note_of (Infusion refusal) = codes "infusion " ++ line (image_word refusal.cause) (refusal.a ∷ refusal.b ∷ [])
-note_of Spent = line (codes "spent") []
-note_of (HeapWanted need live) = (codes "heap need" ++ blank_number need) ++ ((codes " live" ++ blank_number live) ++ line (codes " size") (default_heap ∷ []))
-note_of (StackWanted need used) = (codes "stack need" ++ blank_number need) ++ ((codes " used" ++ blank_number used) ++ line (codes " size") (default_stack ∷ []))
-note_of ConsoleFault = []
-note_of (ShelfFault word) = line (codes "shelf") (word ∷ [])
-note_of (Misfit class place) = line (codes "misfit") (class ∷ place ∷ [])
-note_of Memory = []
+-- the line of a refused set, and that of a refused infusion
+abbrev pub refusal_line : Refusal → List ℕ
+refusal_line refusal = codes "refused " ++ line (cause_word refusal.cause) (refusal.file ∷ refusal.member ∷ refusal.pc ∷ refusal.value ∷ [])
+
+abbrev pub image_line : ImageRefusal → List ℕ
+image_line refusal = codes "infusion " ++ line (image_word refusal.cause) (refusal.a ∷ refusal.b ∷ [])
+
+-- what is noted at the end of a call whose run may use so much
+abbrev pub note_of : Limits → Status → List ℕ
+note_of limits Done = []
+note_of limits (Uncaught class) = codes "uncaught " ++ (class ++ 10 ∷ [])
+note_of limits (Words place) = line (codes "words") (place ∷ [])
+note_of limits (Refused refusal) = refusal_line refusal
+note_of limits (Infusion refusal) = image_line refusal
+note_of limits Spent = line (codes "spent") []
+note_of limits (HeapWanted need live) = (codes "heap need" ++ blank_number need) ++ ((codes " live" ++ blank_number live) ++ line (codes " size") (limits.heap ∷ []))
+note_of limits (StackWanted need used) = (codes "stack need" ++ blank_number need) ++ ((codes " used" ++ blank_number used) ++ line (codes " size") (limits.stack ∷ []))
+note_of limits ConsoleFault = []
+note_of limits (ShelfFault word) = line (codes "shelf") (word ∷ [])
+note_of limits (Misfit class place) = line (codes "misfit") (class ∷ place ∷ [])
+note_of limits Memory = []
 
 -- the status has a note line
 abbrev pub has_note : Status → Bool

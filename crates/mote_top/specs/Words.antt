@@ -1,7 +1,9 @@
 -- The commands, as words. A word is the list of its bytes.
 use Rattle.std.specs.Prelude.{◌≡◌, ◌≢◌, ℕ, ◌+◌, ◌^◌, ◌<◌, ◌≤◌, List, [], ◌∷◌, ◌++◌, length, take, Option, Some, None, codes, decimal}
+use Rattle.dialogue.specs.Limits.{Limits}
 use Rattle.mote_top.specs.declared.words.Command.{Command}
 use Rattle.mote_top.specs.declared.words.Command.TheVariants.{Infuse, Run, Go}
+use Rattle.mote_top.specs.declared.words.Opts.{Opts}
 
 -- a name is not empty and does not begin with '-'
 abbrev pub IsName : List ℕ → Type 0
@@ -15,6 +17,13 @@ abbrev pub option_words : Option ℕ → List (List ℕ)
 option_words None = []
 option_words (Some ticks) = codes "--ticks" ∷ decimal ticks ∷ []
 
+-- the cells of the heap and of the stack, and the budget of ticks, where no option gives them
+abbrev pub default_heap : ℕ
+default_heap = 4096
+
+abbrev pub default_stack : ℕ
+default_stack = 1024
+
 abbrev pub default_ticks : ℕ
 default_ticks = 100000000
 
@@ -22,6 +31,24 @@ default_ticks = 100000000
 abbrev pub ticks_of : Option ℕ → ℕ
 ticks_of None = default_ticks
 ticks_of (Some ticks) = ticks
+
+-- what the options give
+abbrev pub opts_of : Option ℕ → Opts
+opts_of option = record { heap = default_heap; stack = default_stack; ticks = ticks_of option }
+
+-- what a run with these options may use
+abbrev pub limits_in : Opts → Limits
+limits_in opts = record { heap = opts.heap; stack = opts.stack; ticks = opts.ticks }
+
+abbrev pub limits_of : Option ℕ → Limits
+limits_of option = limits_in (opts_of option)
+
+-- heap and stack are sizes that a mote may have
+pub record HasSizes (opts : Opts) : Type 0 where
+  pub least_heap : 64 ≤ opts.heap
+  pub greatest_heap : opts.heap ≤ 32767
+  pub least_stack : 64 ≤ opts.stack
+  pub greatest_stack : opts.stack ≤ 32767
 
 abbrev pub FitsOption : Option ℕ → Type 0
 FitsOption None = Unit {0}
@@ -45,38 +72,44 @@ go_of option class = codes "go" ∷ (option_words option ++ class ∷ [])
 abbrev pub class_place : Option ℕ → ℕ
 class_place option = 1 + length (option_words option)
 
-pub record IsInfuse (words : List (List ℕ)) (out class : ℕ) : Type 0 where
+pub record IsInfuse (words : List (List ℕ)) (out first : ℕ) : Type 0 where
   pub out_name : List ℕ
   pub class_name : List ℕ
   pub words_are : words ≡ infuse_of out_name class_name
   pub is_out : IsName out_name
   pub is_class : IsName class_name
   pub out_is : out ≡ 1
-  pub class_is : class ≡ 2
+  pub first_is : first ≡ 2
 
-pub record IsRun (words : List (List ℕ)) (infusion ticks : ℕ) : Type 0 where
+pub record IsRun (words : List (List ℕ)) (slot : ℕ) (opts : Opts) : Type 0 where
   pub name : List ℕ
   pub option : Option ℕ
   pub words_are : words ≡ run_of name option
   pub is_name : IsName name
   pub fits : FitsOption option
-  pub infusion_is : infusion ≡ 1
-  pub ticks_are : ticks ≡ ticks_of option
+  pub name_is : slot ≡ 1
+  pub opts_are : opts ≡ opts_of option
 
-pub record IsGo (words : List (List ℕ)) (ticks class : ℕ) : Type 0 where
+pub record IsGo (words : List (List ℕ)) (opts : Opts) (first : ℕ) : Type 0 where
   pub name : List ℕ
   pub option : Option ℕ
   pub words_are : words ≡ go_of option name
   pub is_name : IsName name
   pub fits : FitsOption option
-  pub ticks_are : ticks ≡ ticks_of option
-  pub class_is : class ≡ class_place option
+  pub opts_are : opts ≡ opts_of option
+  pub first_is : first ≡ class_place option
 
 -- the words are the command, whose names are places among them
 abbrev pub IsCommand : List (List ℕ) → Command → Type 0
-IsCommand words (Infuse out class) = IsInfuse words out class
-IsCommand words (Run infusion ticks) = IsRun words infusion ticks
-IsCommand words (Go ticks class) = IsGo words ticks class
+IsCommand words (Infuse out first) = IsInfuse words out first
+IsCommand words (Run name opts) = IsRun words name opts
+IsCommand words (Go opts first) = IsGo words opts first
+
+-- what a run of the command may use; infuse runs nothing
+abbrev pub opts_for : Command → Opts
+opts_for (Infuse out first) = opts_of None
+opts_for (Run name opts) = opts
+opts_for (Go opts first) = opts
 
 -- the words begin a command, or are one
 pub record Begins (words : List (List ℕ)) : Type 0 where

@@ -7,9 +7,13 @@ ghost use Rattle.image_form.specs.declared.refusal.FormRefusal.TheVariants.{Memo
 ghost use Rattle.image_check.specs.declared.refusal.CheckCause.TheVariants.{Memory as NoCheckMemory};
 ghost use Rattle.mote_core.specs.Ran.{IsEndingSoFar};
 ghost use Rattle.mote_top.specs.Endings.{split_status, form_refusal as form_refusal_of, check_cause as check_cause_of, check_refusal as check_refusal_of};
-ghost use Rattle.mote_top.specs.Reply.{Answers, RunsImage, RepliesOn, InfusionReplies, OnInput, IsRunEnd, IsVerdict, IsRunVerdict, limits_of, dialogue_of};
+ghost use Rattle.mote_top.specs.Words.{HasSizes, limits_in};
+ghost use Rattle.mote_top.specs.Call.{spoken};
+ghost use Rattle.mote_top.specs.Reply.{RunsImage, SetReplies, InfusionReplies, dialogue_of};
+ghost use Rattle.mote_top.specs.Answer.{Answers};
 
-use crate::status::{HEAP, ImageCause, ImageRefusal, STACK, Status};
+use crate::status::{ImageCause, ImageRefusal, Status};
+use crate::words::Opts;
 use host_face::Console;
 use image_check::{CheckCause, CheckRefusal, Checked, check};
 use image_form::{FormRefusal, read_image};
@@ -23,15 +27,17 @@ use std::alloc::Global;
 /// No name of a class has more bytes.
 const MOST_NAME: usize = 65_535;
 
-/// Infuses the class file that the bytes are, and runs it; or says why it is refused.
+/// Infuses the class file that the bytes are, and runs it; or says why it is refused. Its image is
+/// checked, so the check answers it unless there is no memory.
 pub(crate) fn run_class<C: Console>(
     alloc: Global,
     bytes: Vec<u8>,
-    ticks: u64,
+    opts: Opts,
     console: &mut C,
 ) -> Status
-    ensures { Answers C.left C.shown C.noted C.faults C.room dialogue_of
-        (λ reply. OnInput (C.left console.old) (RepliesOn (bytes.items ∷ []) (limits_of ticks)) reply × IsVerdict reply.status) console.old console.new result }
+    requires sizes { HasSizes opts }
+    ensures { Answers dialogue_of (SetReplies (bytes.items ∷ []) (limits_in opts) (C.left console.old))
+        (spoken C.left C.shown C.noted C.faults C.room console.old) (spoken C.left C.shown C.noted C.faults C.room console.new) result }
 {
     let files = [bytes];
     let image = match infuse(alloc, &files) {
@@ -39,8 +45,8 @@ pub(crate) fn run_class<C: Console>(
         Err(refusal) => return refused(refusal),
     };
     match check(alloc, image) {
-        Ok(checked) => run_checked(alloc, checked, ticks, console),
-        Err((_image, _refusal)) => Status::Memory,
+        Ok(checked) => run_checked(alloc, checked, opts, console),
+        Err((_image, refusal)) => check_refused(refusal),
     }
 }
 
@@ -60,18 +66,19 @@ pub(crate) fn refused(refusal: Refusal) -> Status
 pub(crate) fn run_infusion<C: Console>(
     alloc: Global,
     bytes: &[u8],
-    ticks: u64,
+    opts: Opts,
     console: &mut C,
 ) -> Status
-    ensures { Answers C.left C.shown C.noted C.faults C.room dialogue_of
-        (λ reply. OnInput (C.left console.old) (InfusionReplies bytes.now (limits_of ticks)) reply × IsRunVerdict reply.status) console.old console.new result }
+    requires sizes { HasSizes opts }
+    ensures { Answers dialogue_of (InfusionReplies bytes.now (limits_in opts) (C.left console.old))
+        (spoken C.left C.shown C.noted C.faults C.room console.old) (spoken C.left C.shown C.noted C.faults C.room console.new) result }
 {
     let image = match read_image(alloc, bytes) {
         Ok(image) => image,
         Err(refusal) => return form_refused(refusal),
     };
     match check(alloc, image) {
-        Ok(checked) => run_checked(alloc, checked, ticks, console),
+        Ok(checked) => run_checked(alloc, checked, opts, console),
         Err((_image, refusal)) => check_refused(refusal),
     }
 }
@@ -101,17 +108,18 @@ fn check_refused(refusal: CheckRefusal) -> Status
 }
 
 /// Runs a checked image. All memory is taken before the run.
-fn run_checked<C: Console>(alloc: Global, checked: Checked, ticks: u64, console: &mut C) -> Status
-    ensures { Answers C.left C.shown C.noted C.faults C.room dialogue_of
-        (λ reply. OnInput (C.left console.old) (RunsImage checked (limits_of ticks)) reply × IsRunEnd reply.status) console.old console.new result }
+fn run_checked<C: Console>(alloc: Global, checked: Checked, opts: Opts, console: &mut C) -> Status
+    requires sizes { HasSizes opts }
+    ensures { Answers dialogue_of (RunsImage checked (limits_in opts) (C.left console.old))
+        (spoken C.left C.shown C.noted C.faults C.room console.old) (spoken C.left C.shown C.noted C.faults C.room console.new) result }
 {
     let Ok(room) = Vec::with_capacity(alloc, MOST_NAME) else {
         return Status::Memory;
     };
-    let Ok(mut mote) = Mote::new(alloc, checked, HEAP, STACK) else {
+    let Ok(mut mote) = Mote::new(alloc, checked, opts.heap, opts.stack) else {
         return Status::Memory;
     };
-    let ending = mote.run(console, ticks);
+    let ending = mote.run(console, opts.ticks);
     status_of(&mote, room, ending)
 }
 

@@ -1,16 +1,18 @@
 ghost use Rattle.std.specs.Prelude.{◌≡◌, ◌∷◌, [], ◌++◌, codes, decimal};
 ghost use Rattle.dialogue.specs.Dialogue.{noting};
 ghost use Rattle.host_face.specs.Talk.{Says};
-ghost use Rattle.mote_top.specs.Status.{blank_number, line, cause_word, image_word as image_word_of, note_of};
+ghost use Rattle.mote_top.specs.Status.{blank_number, line, cause_word, image_word as image_word_of, refusal_line, image_line, note_of};
+ghost use Rattle.mote_top.specs.Words.{limits_in};
 
-use crate::status::{HEAP, ImageCause, ImageRefusal, STACK, Status};
+use crate::status::{ImageCause, ImageRefusal, Status};
+use crate::words::Opts;
 use host_face::{Console, ConsoleFailed};
 use itoa::Buffer;
 use jvm_model::{Cause, Refusal};
 
 /// Notes each of the bytes.
 fn note_all<C: Console>(console: &mut C, bytes: &[u8]) -> Result<(), ConsoleFailed>
-    ensures said { Says C.shown C.noted C.faults C.room console.old console.new (noting bytes.now) result }
+    ensures said { Says C.left C.shown C.noted C.faults C.room console.old console.new (noting bytes.now) result }
     ensures left { C.left console.new ≡ C.left console.old }
 {
     for byte in bytes {
@@ -21,7 +23,7 @@ fn note_all<C: Console>(console: &mut C, bytes: &[u8]) -> Result<(), ConsoleFail
 
 /// Notes a blank and the number in decimal.
 fn note_number<C: Console>(console: &mut C, number: u32) -> Result<(), ConsoleFailed>
-    ensures said { Says C.shown C.noted C.faults C.room console.old console.new (noting (32 ∷ decimal number)) result }
+    ensures said { Says C.left C.shown C.noted C.faults C.room console.old console.new (noting (32 ∷ decimal number)) result }
     ensures left { C.left console.new ≡ C.left console.old }
 {
     let mut buffer = Buffer::new();
@@ -31,7 +33,7 @@ fn note_number<C: Console>(console: &mut C, number: u32) -> Result<(), ConsoleFa
 
 /// Notes a line: a word, and numbers with a blank before each.
 fn note_line<C: Console>(console: &mut C, word: &[u8], numbers: &[u32]) -> Result<(), ConsoleFailed>
-    ensures said { Says C.shown C.noted C.faults C.room console.old console.new (noting (line word.now numbers.now)) result }
+    ensures said { Says C.left C.shown C.noted C.faults C.room console.old console.new (noting (line word.now numbers.now)) result }
     ensures left { C.left console.new ≡ C.left console.old }
 {
     note_all(console, word)?;
@@ -82,9 +84,13 @@ fn image_word(cause: ImageCause) -> &'static [u8]
     }
 }
 
-/// Notes the line of a status, if it has one.
-pub fn note_status<C: Console>(console: &mut C, status: &Status) -> Result<(), ConsoleFailed>
-    ensures said { Says C.shown C.noted C.faults C.room console.old console.new (noting (note_of status.now)) result }
+/// Notes the line of a status, if it has one, of a call with these options.
+pub fn note_status<C: Console>(
+    console: &mut C,
+    opts: Opts,
+    status: &Status,
+) -> Result<(), ConsoleFailed>
+    ensures said { Says C.left C.shown C.noted C.faults C.room console.old console.new (noting (note_of (limits_in opts) status.now)) result }
     ensures left { C.left console.new ≡ C.left console.old }
 {
     match status {
@@ -101,7 +107,7 @@ pub fn note_status<C: Console>(console: &mut C, status: &Status) -> Result<(), C
                 *need,
                 b" live",
                 *live,
-                u32::from(HEAP),
+                u32::from(opts.heap),
             )
         }
         Status::StackWanted { need, used } => {
@@ -111,7 +117,7 @@ pub fn note_status<C: Console>(console: &mut C, status: &Status) -> Result<(), C
                 *need,
                 b" used",
                 *used,
-                u32::from(STACK),
+                u32::from(opts.stack),
             )
         }
         Status::ShelfFault { word } => note_line(console, b"shelf", &[*word]),
@@ -125,7 +131,7 @@ pub fn note_status<C: Console>(console: &mut C, status: &Status) -> Result<(), C
 
 /// Notes the name of a class that was thrown, byte for byte.
 fn note_uncaught<C: Console>(console: &mut C, class: &[u8]) -> Result<(), ConsoleFailed>
-    ensures said { Says C.shown C.noted C.faults C.room console.old console.new (noting (codes "uncaught " ++ (class.now ++ 10 ∷ []))) result }
+    ensures said { Says C.left C.shown C.noted C.faults C.room console.old console.new (noting (codes "uncaught " ++ (class.now ++ 10 ∷ []))) result }
     ensures left { C.left console.new ≡ C.left console.old }
 {
     note_all(console, b"uncaught ")?;
@@ -134,7 +140,7 @@ fn note_uncaught<C: Console>(console: &mut C, class: &[u8]) -> Result<(), Consol
 
 /// Notes a text and byte 10.
 fn note_text<C: Console>(console: &mut C, text: &[u8]) -> Result<(), ConsoleFailed>
-    ensures said { Says C.shown C.noted C.faults C.room console.old console.new (noting (text.now ++ 10 ∷ [])) result }
+    ensures said { Says C.left C.shown C.noted C.faults C.room console.old console.new (noting (text.now ++ 10 ∷ [])) result }
     ensures left { C.left console.new ≡ C.left console.old }
 {
     note_all(console, text)?;
@@ -150,7 +156,7 @@ fn note_want<C: Console>(
     used: u32,
     size: u32,
 ) -> Result<(), ConsoleFailed>
-    ensures said { Says C.shown C.noted C.faults C.room console.old console.new
+    ensures said { Says C.left C.shown C.noted C.faults C.room console.old console.new
         (noting ((first.now ++ blank_number need) ++ ((second.now ++ blank_number used) ++ line (codes " size") (size ∷ [])))) result }
     ensures left { C.left console.new ≡ C.left console.old }
 {
@@ -165,7 +171,7 @@ fn note_use<C: Console>(
     used: u32,
     size: u32,
 ) -> Result<(), ConsoleFailed>
-    ensures said { Says C.shown C.noted C.faults C.room console.old console.new
+    ensures said { Says C.left C.shown C.noted C.faults C.room console.old console.new
         (noting ((word.now ++ blank_number used) ++ line (codes " size") (size ∷ []))) result }
     ensures left { C.left console.new ≡ C.left console.old }
 {
@@ -175,7 +181,7 @@ fn note_use<C: Console>(
 
 /// Notes a word, a blank and a number.
 fn note_named<C: Console>(console: &mut C, word: &[u8], number: u32) -> Result<(), ConsoleFailed>
-    ensures said { Says C.shown C.noted C.faults C.room console.old console.new (noting (word.now ++ blank_number number)) result }
+    ensures said { Says C.left C.shown C.noted C.faults C.room console.old console.new (noting (word.now ++ blank_number number)) result }
     ensures left { C.left console.new ≡ C.left console.old }
 {
     note_all(console, word)?;
@@ -183,7 +189,7 @@ fn note_named<C: Console>(console: &mut C, word: &[u8], number: u32) -> Result<(
 }
 
 fn note_refusal<C: Console>(console: &mut C, refusal: Refusal) -> Result<(), ConsoleFailed>
-    ensures said { Says C.shown C.noted C.faults C.room console.old console.new (noting (note_of (Status.Refused refusal))) result }
+    ensures said { Says C.left C.shown C.noted C.faults C.room console.old console.new (noting (refusal_line refusal)) result }
     ensures left { C.left console.new ≡ C.left console.old }
 {
     let Refusal {
@@ -201,7 +207,7 @@ fn note_image_refusal<C: Console>(
     console: &mut C,
     refusal: ImageRefusal,
 ) -> Result<(), ConsoleFailed>
-    ensures said { Says C.shown C.noted C.faults C.room console.old console.new (noting (note_of (Status.Infusion refusal))) result }
+    ensures said { Says C.left C.shown C.noted C.faults C.room console.old console.new (noting (image_line refusal)) result }
     ensures left { C.left console.new ≡ C.left console.old }
 {
     let ImageRefusal { cause, a, b } = refusal;

@@ -4,12 +4,6 @@ ghost use Rattle.mote_top.specs.Status.{code_of, has_note};
 use item_list::Items;
 use jvm_model::Refusal;
 
-/// The cells of the heap.
-pub(crate) const HEAP: u16 = 4096;
-
-/// The cells of the stack.
-pub(crate) const STACK: u16 = 1024;
-
 /// Why the bytes of an infusion do not run: their form is refused, or the check of their image.
 #[derive(Clone, Copy, Debug, PartialEq, Eq)]
 pub enum ImageCause {

@@ -1,13 +1,18 @@
-ghost use Rattle.std.specs.Prelude.{◌≡◌, ℕ, ◌≤◌, ◌⊎◌, ◌∷◌, [], Option, map, IfOk, IfErr};
+ghost use Rattle.std.specs.Prelude.{◌≡◌, ℕ, ◌∷◌, [], Option, map, IfOk, IfErr};
 ghost use Rattle.std.specs.String.{string_bytes};
-ghost use Rattle.host_face.specs.Shelf.{NeverFell, ChangesOnly};
-ghost use Rattle.mote_top.specs.Words.{IsName, infuse_of, run_of, go_of, class_place, ticks_of, FitsOption};
-ghost use Rattle.mote_top.specs.Reply.{Answers, MayReply, shelved, KeepsShelf, IsRefusedStatus, IsQuiet, IsInfusedAs, IsStored, dialogue_of, all_said};
+ghost use Rattle.dialogue.specs.Limits.{Limits};
+ghost use Rattle.host_face.specs.Shelf.{NeverFell};
+ghost use Rattle.mote_top.specs.Words.{IsName, IsCommand, infuse_of, run_of, go_of, class_place, opts_of, opts_for, limits_in, FitsOption, HasSizes};
+ghost use Rattle.mote_top.specs.Call.{shelved, spoken, call, after};
+ghost use Rattle.mote_top.specs.Reply.{MayReply, IsInfusionOf, dialogue_of};
+ghost use Rattle.mote_top.specs.Answer.{Answers, IsQuiet, IsNoted};
+ghost use Rattle.mote_top.specs.Headline.{IsReplied, KeepsShelf, ChangesOwn};
+ghost use Rattle.mote_top.specs.Storing.{IsRefusedStatus, IsStored};
 
 use crate::machine::{refused, run_class, run_infusion};
 use crate::note::note_status;
 use crate::status::Status;
-use crate::words::{Command, read_words};
+use crate::words::{Command, DEFAULT_OPTS, Opts, read_words};
 use host_face::{Console, ConsoleFailed, Shelf, ShelfFail};
 use image_form::write_image;
 use infuse_link::infuse;
@@ -20,60 +25,66 @@ pub(crate) fn replied<S: Shelf, C: Console>(
     shelf: &mut S,
     console: &mut C,
 ) -> Status
-    ensures replied { Answers C.left C.shown C.noted C.faults C.room all_said
-        (MayReply (map string_bytes words.now) (shelved (S.kept shelf.old) (S.load_faults shelf.old) (S.store_faults shelf.old))
-        (shelved (S.kept shelf.new) (S.load_faults shelf.new) (S.store_faults shelf.new)) (C.left console.old))
-        console.old console.new result }
-    ensures shelf { KeepsShelf (map string_bytes words.now) (shelved (S.kept shelf.old) (S.load_faults shelf.old) (S.store_faults shelf.old))
-        (shelved (S.kept shelf.new) (S.load_faults shelf.new) (S.store_faults shelf.new)) }
+    ensures replied { IsReplied
+        (call (map string_bytes words.now) (shelved S.kept S.load_faults S.store_faults shelf.old) (spoken C.left C.shown C.noted C.faults C.room console.old))
+        (after (shelved S.kept S.load_faults S.store_faults shelf.new) (spoken C.left C.shown C.noted C.faults C.room console.new) result) }
+    ensures shelf { KeepsShelf (map string_bytes words.now) (shelved S.kept S.load_faults S.store_faults shelf.old) (shelved S.kept S.load_faults S.store_faults shelf.new) }
 {
-    let status = answer(alloc, words, shelf, console);
+    match read_words(words) {
+        Ok(command) => {
+            let status = answer(alloc, words, command, shelf, console);
+            noted(console, command.opts(), status)
+        }
+        Err(fault) => noted(console, DEFAULT_OPTS, Status::Words { place: fault.place }),
+    }
+}
+
+/// The status, once its line is noted.
+fn noted<C: Console>(console: &mut C, opts: Opts, status: Status) -> Status
+    ensures { IsNoted (limits_in opts) (spoken C.left C.shown C.noted C.faults C.room console.old) (spoken C.left C.shown C.noted C.faults C.room console.new) status result }
+{
     if !status.has_note() {
         return status;
     }
-    match note_status(console, &status) {
+    match note_status(console, opts, &status) {
         Ok(()) => status,
         Err(ConsoleFailed) => Status::ConsoleFault,
     }
 }
 
-/// The status, before its line is noted.
+/// The status of a command, before its line is noted.
 fn answer<S: Shelf, C: Console>(
     alloc: Global,
     words: &[String],
+    command: Command,
     shelf: &mut S,
     console: &mut C,
 ) -> Status
-    ensures replied { Answers C.left C.shown C.noted C.faults C.room dialogue_of
-        (MayReply (map string_bytes words.now) (shelved (S.kept shelf.old) (S.load_faults shelf.old) (S.store_faults shelf.old))
-        (shelved (S.kept shelf.new) (S.load_faults shelf.new) (S.store_faults shelf.new)) (C.left console.old))
-        console.old console.new result }
-    ensures shelf { KeepsShelf (map string_bytes words.now) (shelved (S.kept shelf.old) (S.load_faults shelf.old) (S.store_faults shelf.old))
-        (shelved (S.kept shelf.new) (S.load_faults shelf.new) (S.store_faults shelf.new)) }
+    requires command { IsCommand (map string_bytes words.now) command }
+    ensures replied { Answers dialogue_of
+        (MayReply (call (map string_bytes words.now) (shelved S.kept S.load_faults S.store_faults shelf.old) (spoken C.left C.shown C.noted C.faults C.room console.old))
+        (shelved S.kept S.load_faults S.store_faults shelf.new) (limits_in (opts_for command)))
+        (spoken C.left C.shown C.noted C.faults C.room console.old) (spoken C.left C.shown C.noted C.faults C.room console.new) result }
+    ensures shelf { KeepsShelf (map string_bytes words.now) (shelved S.kept S.load_faults S.store_faults shelf.old) (shelved S.kept S.load_faults S.store_faults shelf.new) }
 {
-    match read_words(words) {
-        Ok(Command::Infuse { out, class }) => infuse_to(
+    match command {
+        Command::Infuse { out, first } => infuse_to(
             alloc,
             words[out as usize].as_str(),
-            words[class as usize].as_str(),
+            words[first as usize].as_str(),
             shelf,
         ),
-        Ok(Command::Run { infusion, ticks }) => run(
+        Command::Run { name, opts } => {
+            run(alloc, words[name as usize].as_str(), opts, shelf, console)
+        }
+        Command::Go { opts, first } => go(
             alloc,
-            words[infusion as usize].as_str(),
-            ticks,
+            words[first as usize].as_str(),
+            first,
+            opts,
             shelf,
             console,
         ),
-        Ok(Command::Go { ticks, class }) => go(
-            alloc,
-            words[class as usize].as_str(),
-            class,
-            ticks,
-            shelf,
-            console,
-        ),
-        Err(fault) => Status::Words { place: fault.place },
     }
 }
 
@@ -82,22 +93,23 @@ fn go<S: Shelf, C: Console>(
     alloc: Global,
     name: &str,
     word: u32,
-    ticks: u64,
+    opts: Opts,
     shelf: &mut S,
     console: &mut C,
 ) -> Status
     requires name { IsName name.now }
-    ensures replied { (option : Option ℕ) → FitsOption option → ticks ≡ ticks_of option → word ≡ class_place option
-        → Answers C.left C.shown C.noted C.faults C.room dialogue_of
-        (MayReply (go_of option name.now) (shelved (S.kept shelf.old) (S.load_faults shelf.old) (S.store_faults shelf.old))
-        (shelved (S.kept shelf.new) (S.load_faults shelf.new) (S.store_faults shelf.new)) (C.left console.old))
-        console.old console.new result }
+    requires sizes { HasSizes opts }
+    ensures replied { (option : Option ℕ) → FitsOption option → opts ≡ opts_of option → word ≡ class_place option
+        → Answers dialogue_of
+        (MayReply (call (go_of option name.now) (shelved S.kept S.load_faults S.store_faults shelf.old) (spoken C.left C.shown C.noted C.faults C.room console.old))
+        (shelved S.kept S.load_faults S.store_faults shelf.new) (limits_in opts))
+        (spoken C.left C.shown C.noted C.faults C.room console.old) (spoken C.left C.shown C.noted C.faults C.room console.new) result }
     ensures kept { S.kept shelf.new ≡ S.kept shelf.old }
     ensures loads { NeverFell (S.load_faults shelf.old) (S.load_faults shelf.new) }
     ensures stores { NeverFell (S.store_faults shelf.old) (S.store_faults shelf.new) }
 {
     match shelf.load(alloc, name) {
-        Ok(bytes) => run_class(alloc, bytes, ticks, console),
+        Ok(bytes) => run_class(alloc, bytes, opts, console),
         Err(ShelfFail::Failed) => Status::ShelfFault { word },
         Err(ShelfFail::Memory) => Status::Memory,
     }
@@ -107,22 +119,23 @@ fn go<S: Shelf, C: Console>(
 fn run<S: Shelf, C: Console>(
     alloc: Global,
     name: &str,
-    ticks: u64,
+    opts: Opts,
     shelf: &mut S,
     console: &mut C,
 ) -> Status
     requires name { IsName name.now }
-    ensures replied { (option : Option ℕ) → FitsOption option → ticks ≡ ticks_of option
-        → Answers C.left C.shown C.noted C.faults C.room dialogue_of
-        (MayReply (run_of name.now option) (shelved (S.kept shelf.old) (S.load_faults shelf.old) (S.store_faults shelf.old))
-        (shelved (S.kept shelf.new) (S.load_faults shelf.new) (S.store_faults shelf.new)) (C.left console.old))
-        console.old console.new result }
+    requires sizes { HasSizes opts }
+    ensures replied { (option : Option ℕ) → FitsOption option → opts ≡ opts_of option
+        → Answers dialogue_of
+        (MayReply (call (run_of name.now option) (shelved S.kept S.load_faults S.store_faults shelf.old) (spoken C.left C.shown C.noted C.faults C.room console.old))
+        (shelved S.kept S.load_faults S.store_faults shelf.new) (limits_in opts))
+        (spoken C.left C.shown C.noted C.faults C.room console.old) (spoken C.left C.shown C.noted C.faults C.room console.new) result }
     ensures kept { S.kept shelf.new ≡ S.kept shelf.old }
     ensures loads { NeverFell (S.load_faults shelf.old) (S.load_faults shelf.new) }
     ensures stores { NeverFell (S.store_faults shelf.old) (S.store_faults shelf.new) }
 {
     match shelf.load(alloc, name) {
-        Ok(bytes) => run_infusion(alloc, bytes.as_slice(), ticks, console),
+        Ok(bytes) => run_infusion(alloc, bytes.as_slice(), opts, console),
         Err(ShelfFail::Failed) => Status::ShelfFault { word: 1 },
         Err(ShelfFail::Memory) => Status::Memory,
     }
@@ -132,9 +145,9 @@ fn run<S: Shelf, C: Console>(
 fn infuse_to<S: Shelf>(alloc: Global, out: &str, class: &str, shelf: &mut S) -> Status
     requires out { IsName out.now }
     requires class { IsName class.now }
-    ensures replied { IsQuiet (MayReply (infuse_of out.now class.now) (shelved (S.kept shelf.old) (S.load_faults shelf.old) (S.store_faults shelf.old))
-        (shelved (S.kept shelf.new) (S.load_faults shelf.new) (S.store_faults shelf.new))) result }
-    ensures others { (S.kept shelf.new ≡ S.kept shelf.old) ⊎ ChangesOnly out.now (S.kept shelf.old) (S.kept shelf.new) }
+    ensures replied { (limits : Limits) → IsQuiet (λ console. MayReply (call (infuse_of out.now class.now) (shelved S.kept S.load_faults S.store_faults shelf.old) console)
+        (shelved S.kept S.load_faults S.store_faults shelf.new) limits) result }
+    ensures kept { ChangesOwn (infuse_of out.now class.now) (S.kept shelf.old) (S.kept shelf.new) }
     ensures loads { NeverFell (S.load_faults shelf.old) (S.load_faults shelf.new) }
     ensures stores { NeverFell (S.store_faults shelf.old) (S.store_faults shelf.new) }
 {
@@ -164,7 +177,7 @@ fn store<S: Shelf>(out: &str, infusion: &[u8], shelf: &mut S) -> Status
 
 /// The infusion of the class file that the bytes are, or the status of its refusal.
 fn infusion_of(alloc: Global, bytes: Vec<u8>) -> Result<Vec<u8>, Status>
-    ensures ok { IfOk result (λ infusion. IsInfusedAs (bytes.items ∷ []) infusion.items) }
+    ensures ok { IfOk result (λ infusion. IsInfusionOf (bytes.items ∷ []) infusion.items) }
     ensures err { IfErr result (IsRefusedStatus (bytes.items ∷ [])) }
 {
     let files = [bytes];

@@ -1,21 +1,45 @@
 ghost use Rattle.std.specs.Prelude.{◌≡◌, ◌≢◌, ◌<◌, ◌^◌, ◌∷◌, ◌↔◌, ℕ, IsTrue, IsNone, IfSome, map, MatchResult, codes, decimal};
 ghost use Rattle.std.specs.String.{string_bytes};
-ghost use Rattle.mote_top.specs.Words.{IsName, IsCommand, FaultsAt};
+ghost use Rattle.mote_top.specs.Words.{IsName, IsCommand, FaultsAt, opts_of, opts_for};
 
 use itoa::Buffer;
 
-/// The budget of ticks of a command without the option.
-const DEFAULT_TICKS: u64 = 100_000_000;
+/// What a run may use: the cells of the heap and of the stack, and a budget of ticks.
+#[derive(Clone, Copy, Debug, PartialEq, Eq)]
+pub struct Opts {
+    pub heap: u16,
+    pub stack: u16,
+    pub ticks: u64,
+}
+
+/// The options of a command that gives none.
+pub(crate) const DEFAULT_OPTS: Opts = Opts {
+    heap: 4_096,
+    stack: 1_024,
+    ticks: 100_000_000,
+};
 
 /// A command; a name is the place of its word.
 #[derive(Clone, Copy, Debug, PartialEq, Eq)]
 pub enum Command {
-    /// Stores the infusion of the class file `class` at the name `out`.
-    Infuse { out: u32, class: u32 },
-    /// Runs the infusion of this name on a budget of ticks.
-    Run { infusion: u32, ticks: u64 },
-    /// Infuses the class file of this name and runs it on a budget of ticks.
-    Go { ticks: u64, class: u32 },
+    /// Stores the infusion of the class file `first` at the name `out`.
+    Infuse { out: u32, first: u32 },
+    /// Runs the infusion of this name.
+    Run { name: u32, opts: Opts },
+    /// Infuses the class file `first` and runs it.
+    Go { opts: Opts, first: u32 },
+}
+
+impl Command {
+    /// What a run of the command may use.
+    pub fn opts(&self) -> Opts
+        ensures { result ≡ opts_for self.now }
+    {
+        match self {
+            Command::Infuse { .. } => DEFAULT_OPTS,
+            Command::Run { opts, .. } | Command::Go { opts, .. } => *opts,
+        }
+    }
 }
 
 /// The words are no command.
@@ -62,7 +86,7 @@ fn read_infuse(rest: &[String]) -> Result<Command, WordFault>
         return Err(WordFault { place: 2 });
     }
     if rest.is_empty() {
-        Ok(Command::Infuse { out: 1, class: 2 })
+        Ok(Command::Infuse { out: 1, first: 2 })
     } else {
         Err(WordFault { place: 3 })
     }
@@ -80,8 +104,8 @@ fn read_run(rest: &[String]) -> Result<Command, WordFault>
     }
     let Some((option, rest)) = rest.split_first() else {
         return Ok(Command::Run {
-            infusion: 1,
-            ticks: DEFAULT_TICKS,
+            name: 1,
+            opts: DEFAULT_OPTS,
         });
     };
     if option.as_str() != "--ticks" {
@@ -94,7 +118,10 @@ fn read_run(rest: &[String]) -> Result<Command, WordFault>
         return Err(WordFault { place: 3 });
     };
     if rest.is_empty() {
-        Ok(Command::Run { infusion: 1, ticks })
+        Ok(Command::Run {
+            name: 1,
+            opts: with_ticks(ticks),
+        })
     } else {
         Err(WordFault { place: 4 })
     }
@@ -115,8 +142,8 @@ fn read_go(rest: &[String]) -> Result<Command, WordFault>
     }
     if suffix.is_empty() {
         Ok(Command::Go {
-            ticks: DEFAULT_TICKS,
-            class: 1,
+            opts: DEFAULT_OPTS,
+            first: 1,
         })
     } else {
         Err(WordFault { place: 2 })
@@ -140,9 +167,23 @@ fn read_go_ticks(rest: &[String]) -> Result<Command, WordFault>
         return Err(WordFault { place: 3 });
     }
     if rest.is_empty() {
-        Ok(Command::Go { ticks, class: 3 })
+        Ok(Command::Go {
+            opts: with_ticks(ticks),
+            first: 3,
+        })
     } else {
         Err(WordFault { place: 4 })
+    }
+}
+
+/// The options where the budget of ticks alone is given.
+fn with_ticks(ticks: u64) -> Opts
+    ensures { result ≡ opts_of (Some ticks) }
+{
+    Opts {
+        heap: DEFAULT_OPTS.heap,
+        stack: DEFAULT_OPTS.stack,
+        ticks,
     }
 }
 

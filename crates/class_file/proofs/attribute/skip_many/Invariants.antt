@@ -1,5 +1,5 @@
 use Rattle.std.proofs.Common.{◌≡◌, ◌-◌}
-use Rattle.class_file.specs.Reading.{steps_at}
+use Rattle.byte_read.specs.Reading.{steps_at}
 use Rattle.class_file.specs.ReadingMembers.{skipped}
 use Rattle.class_file.proofs.attribute.skip_many.Given as goal
 

@@ -1,5 +1,5 @@
 use Rattle.std.proofs.Common.{◌≡◌, ◌-◌, []}
-use Rattle.class_file.specs.Reading.{steps_at, one_more}
+use Rattle.byte_read.specs.Reading.{steps_at, one_more}
 use Rattle.class_file.specs.ReadingMembers.{handler_at}
 use Rattle.class_file.proofs.code.handler_rows.Given as goal
 

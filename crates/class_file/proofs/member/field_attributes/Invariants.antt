@@ -1,5 +1,5 @@
 use Rattle.std.proofs.Common.{◌≡◌, ◌-◌, None}
-use Rattle.class_file.specs.Reading.{steps_at}
+use Rattle.byte_read.specs.Reading.{steps_at}
 use Rattle.class_file.specs.ReadingMembers.{field_attribute_at}
 use Rattle.class_file.proofs.member.field_attributes.Given as goal
 

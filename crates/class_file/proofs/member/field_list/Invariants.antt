@@ -1,5 +1,5 @@
 use Rattle.std.proofs.Common.{◌≡◌, ◌-◌, []}
-use Rattle.class_file.specs.Reading.{steps_at, one_more}
+use Rattle.byte_read.specs.Reading.{steps_at, one_more}
 use Rattle.class_file.specs.ReadingMembers.{field_at}
 use Rattle.class_file.specs.Texts.{AreSeen}
 use Rattle.class_file.proofs.member.field_list.Given as goal

@@ -1,5 +1,5 @@
 use Rattle.std.proofs.Common.{◌≡◌, ◌-◌, []}
-use Rattle.class_file.specs.Reading.{steps_at, one_more}
+use Rattle.byte_read.specs.Reading.{steps_at, one_more}
 use Rattle.class_file.specs.ReadingClass.{class_index_at}
 use Rattle.class_file.proofs.read.interface_list.Given as goal
 

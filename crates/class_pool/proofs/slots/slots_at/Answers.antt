@@ -1,13 +1,14 @@
 use Rattle.std.proofs.Common.{◌≡◌, ◌++◌, ◌∷◌, ◌-◌, [], false}
 use Rattle.std.proofs.lemmas.Result.{err_from_is_err_and}
 use Rattle.class_pool.specs.PoolReading.{is_first_of_two, slots_at}
+use Rattle.class_pool.proofs.Steps.{good_shows}
 use Rattle.class_pool.proofs.Loop.{goes_on, ends, is_done}
 use Rattle.class_pool.proofs.slots.slots_at.Goals as goal
 
 pub returns-in_err-slot : goal.returns-in_err-slot
 returns-in_err-slot c =
     let p = err_from_is_err_and c.from_residual.result c.from_residual.ensures.1 in
-    rw (p.1, p.2) (ends c.in_err-slot.field-0.0 c.loop-index.second c.loop-index.slots.items c.args.count c.loop-index.index c.loop-index.rest.now (slots_at false 1 (c.args.count - 1) c.args.bytes.now) c.loop-index-test.true c.in_err-slot.ensures c.loop-index.invariant)
+    rw (p.1, p.2) (ends c.in_err-slot.field-0.0 c.loop-index.second c.loop-index.slots.items c.args.count c.loop-index.index c.loop-index.rest.now (slots_at false 1 (c.args.count - 1) c.args.bytes.now) c.loop-index-test.true (good_shows c.in_err-slot.field-0.0 _ c.in_err-slot.ensures) c.loop-index.invariant)
 
 pub loop-index-preserved : goal.loop-index-preserved
 loop-index-preserved c =

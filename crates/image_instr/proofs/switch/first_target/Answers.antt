@@ -21,6 +21,11 @@ switch_operands_target-requires-clause-rows c =
     let prefix = (switch_there c.args.bytes.now (λ i. omega (arith, c.type_inv.bytes i)) c.requires).2.low_byte c.if-bytes-le-LAST_SWITCH.true in
     rw (c.bytes_from-operands.ensures, drop-drop 2 1 c.args.bytes.now, drop-drop 4 1 c.args.bytes.now) prefix.0.rows
 
+pub switch_operands_target-requires-clause-rise : goal.switch_operands_target-requires-clause-rise
+switch_operands_target-requires-clause-rise c =
+    let prefix = (switch_there c.args.bytes.now (λ i. omega (arith, c.type_inv.bytes i)) c.requires).2.low_byte c.if-bytes-le-LAST_SWITCH.true in
+    rw (c.bytes_from-operands.ensures, drop-drop 2 1 c.args.bytes.now, drop-drop 4 1 c.args.bytes.now) prefix.0.rise
+
 pub table_operands_target-requires-clause-there : goal.table_operands_target-requires-clause-there
 table_operands_target-requires-clause-there c =
     let prefix = (switch_there c.args.bytes.now (λ i. omega (arith, c.type_inv.bytes i)) c.requires).2.high_byte c.if-bytes-le-LAST_SWITCH.false in

@@ -1,7 +1,7 @@
 use Rattle.std.proofs.Common.{◌≡◌, ℕ, Some, option_map, false, true, not, sym, ap, ◌∙◌, get_or}
 use Rattle.class_code.specs.declared.insn.Insn.{Insn}
 use Rattle.jvm_model.specs.Body.{family_of}
-use Rattle.jvm_model.specs.Accepted.{is_plain_insn}
+use Rattle.jvm_model.specs.BuiltForm.{is_plain_insn}
 use Rattle.class_code.proofs.Firsts.{loop-more, loop-here, loop-end}
 use Rattle.infuse_link.specs.NumberInsns.{meant}
 use Rattle.infuse_link.specs.Sets.{is_inside}

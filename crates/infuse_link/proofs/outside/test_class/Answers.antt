@@ -1,6 +1,6 @@
 use Rattle.std.proofs.Common.{inl, inr, ◌+◌, List, drop, Some, None, sym, subst}
 use Rattle.class_file.specs.declared.record.Member.{Member}
-use Rattle.jvm_model.specs.Accepted.{FirstOf, OutsideMethod}
+use Rattle.jvm_model.specs.BuiltForm.{FirstOf, OutsideMethod}
 use Rattle.infuse_link.proofs.OutsideFirsts.{found_more, found_here, found_none}
 use Rattle.infuse_link.proofs.outside.test_class.Goals as goal
 

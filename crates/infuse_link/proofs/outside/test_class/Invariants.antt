@@ -1,6 +1,6 @@
 use Rattle.std.proofs.Common.{Option, drop}
 use Rattle.jvm_model.specs.declared.refusal.Refusal.{Refusal}
-use Rattle.jvm_model.specs.Accepted.{FirstOf, OutsideMethod}
+use Rattle.jvm_model.specs.BuiltForm.{FirstOf, OutsideMethod}
 use Rattle.infuse_link.proofs.outside.test_class.Given as goal
 
 -- what is found in the methods that are left is found in all

@@ -1,5 +1,5 @@
 use Rattle.std.proofs.Common.{inl, inr, Some, None}
-use Rattle.jvm_model.specs.Accepted.{OutsideClass}
+use Rattle.jvm_model.specs.BuiltForm.{OutsideClass}
 use Rattle.infuse_link.proofs.OutsideFirsts.{found_more, found_here, found_none}
 use Rattle.infuse_link.proofs.outside.test_classes.Goals as goal
 

@@ -3,7 +3,7 @@ use Rattle.std.specs.Prelude.{Ok}
 use Rattle.class_code.specs.Code.{Insns, decoded}
 use Rattle.jvm_model.specs.declared.refusal.Cause.TheVariants as cause
 use Rattle.jvm_model.specs.declared.refusal.Refusal.{Refusal}
-use Rattle.jvm_model.specs.Accepted.{OutsideInsns, OutsideCode}
+use Rattle.jvm_model.specs.BuiltForm.{OutsideInsns, OutsideCode}
 use Rattle.infuse_link.proofs.Loops.{then_ok}
 use Rattle.infuse_link.proofs.OutsideFirsts.{code_outside}
 use Rattle.infuse_link.proofs.Verdicts.{err_for}

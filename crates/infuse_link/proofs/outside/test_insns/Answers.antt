@@ -1,7 +1,7 @@
 use Rattle.std.proofs.Common.{◌≡◌, inr, ℕ, Bool, List, false, get_or, Some, None, sym, ap, subst, ◌∙◌}
 use Rattle.jvm_model.specs.declared.refusal.Refusal.{Refusal}
 use Rattle.jvm_model.specs.Reached.{code_ways}
-use Rattle.jvm_model.specs.Accepted.{OutsideInsns}
+use Rattle.jvm_model.specs.BuiltForm.{OutsideInsns}
 use Rattle.infuse_link.specs.Sets.{first_outside}
 use Rattle.infuse_link.proofs.OutsideFirsts.{tested_outside}
 use Rattle.infuse_link.proofs.outside.test_insns.Goals as goal

@@ -5,7 +5,7 @@ use Rattle.std.proofs.Common.{[]}
 use Rattle.jvm_model.proofs.laws.one_ending.Goals as goal
 
 pub returns-clause-run : goal.returns-clause-run
-returns-clause-run c = λ program budget input first second a b. one_ending (machine program budget) (Running [] (start_of program input)) first second a b
+returns-clause-run c = λ program budget answers first second a b. one_ending (machine program budget) (Running [] (start_of program answers)) first second a b
 
 pub returns-clause-limited_run : goal.returns-clause-limited_run
-returns-clause-limited_run c = λ program cells limits input first second a b. one_ending (machine program limits.ticks) (start_within program cells limits input) first second a b
+returns-clause-limited_run c = λ program cells limits answers first second a b. one_ending (machine program limits.ticks) (start_within program cells limits answers) first second a b

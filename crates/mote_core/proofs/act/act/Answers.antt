@@ -14,12 +14,12 @@ pub returns-in-Throw-clause-acts : goal.returns-in-Throw-clause-acts
 returns-in-Throw-clause-acts g c =
     let C = g.C.Console in
     let is = rw c.in-Throw.is at c.requires in
-    rw c.in-Throw.is (acts-throw C.left C.shown C.noted C.faults C.room c.in-Throw.class c.args.next is _ _ c.args.console.now)
+    rw c.in-Throw.is (acts-throw C.left C.shown C.noted C.faults C.room c.in-Throw.class c.args.next is _ c.args.console.now)
 
 pub returns-in-Return-clause-acts : goal.returns-in-Return-clause-acts
 returns-in-Return-clause-acts g c =
     let C = g.C.Console in
-    rw c.in-Return.is (acts-return C.left C.shown C.noted C.faults C.room c.args.next _ _ c.args.console.now)
+    rw c.in-Return.is (acts-return C.left C.shown C.noted C.faults C.room c.args.next _ c.args.console.now)
 
 pub returns-in-Write-clause-acts : goal.returns-in-Write-clause-acts
 returns-in-Write-clause-acts g c =

@@ -1,4 +1,4 @@
-use Rattle.std.proofs.Common.{◌≡◌, ◌∷◌, [], refl, ap, subst, ◌∙◌, rules}
+use Rattle.std.proofs.Common.{refl, ◌∙◌, rules}
 use mir.Syntax.{w32}
 use mir.Val.{SFits}
 use Rattle.std.proofs.lemmas.Int.{to_z-of_z}
@@ -9,7 +9,7 @@ use Rattle.mote_core.proofs.act.push_read.Goals as goal
 pub returns-then-not-tick-clause-acts : goal.returns-then-not-tick-clause-acts
 returns-then-not-tick-clause-acts g c =
     let C = g.C.Console in
-    acts-read-spent C.left C.shown C.noted C.faults C.room c.args.next _ _ c.args.console.now c.if-not-tick.ensures.tick
+    acts-read-spent C.left C.shown C.noted C.faults C.room c.args.next _ c.args.console.now c.if-not-tick.ensures.tick
 
 pub returns-in-Ok-clause-acts : goal.returns-in-Ok-clause-acts
 returns-in-Ok-clause-acts g c =

@@ -1,15 +1,15 @@
-use Rattle.std.proofs.Common.{◌≡◌, ◌+ℤ◌, ◌∙◌, rules, sym, ap}
+use Rattle.std.proofs.Common.{◌+ℤ◌, ◌∙◌, rules, sym, ap}
 use mir.Syntax.{w16, w32}
 use mir.Val.{SFits}
 use Rattle.std.specs.Int.{int_wrap}
 use Rattle.std.proofs.lemmas.Int.{to_z-of_z}
-use Rattle.cell_num.specs.Cells.{low_cell, high_cell, joined_cells}
+use Rattle.cell_num.specs.Cells.{low_cell, high_cell}
 use Rattle.mote_model.specs.Machine.{local_cells, with_local}
 use Rattle.mote_core.proofs.cells.increase.Goals as goal
 
 pub returns-clause-items : goal.returns-clause-items
 returns-clause-items c =
-    let pair = ap (λ t. local_cells t c.args.local) (sym c.as_slice.ensures.value) ∙ c.local_pair-low.ensures in
+    let pair = ap (λ t. local_cells t c.args.local) (sym c.items.ensures) ∙ c.local_pair-low.ensures in
     let fits : SFits w16 c.args.amount = search rules in
     let amount_fits : SFits w32 c.from.result = search rules in
     let number_fits : SFits w32 c.join.result = search rules in

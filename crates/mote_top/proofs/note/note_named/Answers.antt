@@ -1,9 +1,5 @@
-use Rattle.std.proofs.Common.{ℕ, List, ◌∷◌, [], ◌++◌, subst}
-use Rattle.std.specs.Prelude.{codes}
 use Rattle.std.proofs.lemmas.Result.{err_from_is_err_and}
-use Rattle.dialogue.specs.Dialogue.{noting}
-use Rattle.host_face.specs.Talk.{Says}
-use Rattle.mote_top.specs.Status.{blank_number, line, image_word}
+use Rattle.mote_top.specs.Status.{blank_number}
 use Rattle.mote_top.proofs.Notes.{Noting-prefix, Noting-last}
 use Rattle.mote_top.proofs.note.note_named.Goals as goal
 
@@ -11,9 +7,9 @@ pub returns-in_err-note_all-clause-said : goal.returns-in_err-note_all-clause-sa
 returns-in_err-note_all-clause-said g c =
     let C = g.C.Console in
     let p = err_from_is_err_and c.from_residual.result c.from_residual.ensures.1 in
-    rw p.1 (Noting-prefix C.shown C.noted C.faults C.room c.args.console.now c.note_all.new.console c.args.word.now (blank_number c.args.number) c.in_err-note_all.ensures.said)
+    rw p.1 (Noting-prefix C.left C.shown C.noted C.faults C.room c.args.console.now c.note_all.new.console c.args.word.now (blank_number c.args.number) c.in_err-note_all.ensures.said)
 
 pub returns-clause-said : goal.returns-clause-said
 returns-clause-said g c =
     let C = g.C.Console in
-    Noting-last C.shown C.noted C.faults C.room c.args.console.now c.note_all.new.console c.note_number.new.console c.args.word.now (blank_number c.args.number) c.note_number.result c.in_ok-note_all.ensures.said c.note_number.ensures.said
+    Noting-last C.left C.shown C.noted C.faults C.room c.args.console.now c.note_all.new.console c.note_number.new.console c.args.word.now (blank_number c.args.number) c.note_number.result c.in_ok-note_all.ensures.left c.in_ok-note_all.ensures.said c.note_number.ensures.said

@@ -10,11 +10,11 @@ pub returns-in_err-note_all-clause-said : goal.returns-in_err-note_all-clause-sa
 returns-in_err-note_all-clause-said g c =
     let C = g.C.Console in
     let p = err_from_is_err_and c.from_residual.result c.from_residual.ensures.1 in
-    rw p.1 (Noting-prefix C.shown C.noted C.faults C.room c.args.console.now c.note_all.new.console (32 ∷ []) (decimal c.args.number) c.in_err-note_all.ensures.said)
+    rw p.1 (Noting-prefix C.left C.shown C.noted C.faults C.room c.args.console.now c.note_all.new.console (32 ∷ []) (decimal c.args.number) c.in_err-note_all.ensures.said)
 
 pub returns-clause-said : goal.returns-clause-said
 returns-clause-said g c =
     let C = g.C.Console in
     let text : c.as_bytes.result.now ≡ decimal c.args.number = c.as_bytes.ensures.value ∙ c.format.ensures.text in
-    let last = subst (λ (bytes : List ℕ). Says C.shown C.noted C.faults C.room c.note_all.new.console c.note_all-2.new.console (noting bytes) c.note_all-2.result) text c.note_all-2.ensures.said in
-    Noting-last C.shown C.noted C.faults C.room c.args.console.now c.note_all.new.console c.note_all-2.new.console (32 ∷ []) (decimal c.args.number) c.note_all-2.result c.in_ok-note_all.ensures.said last
+    let last = subst (λ (bytes : List ℕ). Says C.left C.shown C.noted C.faults C.room c.note_all.new.console c.note_all-2.new.console (noting bytes) c.note_all-2.result) text c.note_all-2.ensures.said in
+    Noting-last C.left C.shown C.noted C.faults C.room c.args.console.now c.note_all.new.console c.note_all-2.new.console (32 ∷ []) (decimal c.args.number) c.note_all-2.result c.in_ok-note_all.ensures.left c.in_ok-note_all.ensures.said last

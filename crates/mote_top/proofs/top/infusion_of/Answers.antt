@@ -1,12 +1,13 @@
-use Rattle.std.proofs.Common.{◌≡◌, sym, ap, ◌∙◌}
-use Rattle.image_form.specs.Format.{encoding}
-use Rattle.mote_top.proofs.Runs.{refused_status}
+use Rattle.std.proofs.Common.{◌∷◌, []}
+use Rattle.infuse_link.proofs.AcceptedSets.{set_image}
+use Rattle.mote_top.proofs.Sets.{refused_status}
 use Rattle.mote_top.proofs.top.infusion_of.Goals as goal
 
+pub write_image-requires : goal.write_image-requires
+write_image-requires c = set_image (c.args.bytes.items ∷ []) c.in-Ok.image c.in-Ok.ensures.found
+
 pub returns-in-Ok-write_image-clause-ok : goal.returns-in-Ok-write_image-clause-ok
-returns-in-Ok-write_image-clause-ok c =
-    let found = c.in-Ok.ensures.found in
-    record { file = found.file; code = found.code; body = found.body; accepted = found.accepted; encoded = c.in-Ok-write_image.ensures ∙ ap encoding found.image_is }
+returns-in-Ok-write_image-clause-ok c = record { image = c.in-Ok.image; is_image = c.in-Ok.ensures.found; is_encoding = c.in-Ok-write_image.ensures }
 
 pub returns-in-Err-clause-err : goal.returns-in-Err-clause-err
-returns-in-Err-clause-err c = refused_status c.args.bytes.items c.in-Err.refusal c.refused.result c.refused.ensures.memory c.refused.ensures.other c.in-Err.ensures.refused
+returns-in-Err-clause-err c = refused_status (c.args.bytes.items ∷ []) c.in-Err.refusal c.refused.result c.refused.ensures.memory c.refused.ensures.other c.in-Err.ensures.refused

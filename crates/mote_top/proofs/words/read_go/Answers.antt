@@ -1,11 +1,9 @@
-use Rattle.std.proofs.Common.{◌≡◌, ◌≢◌, ◌<◌, ◌^◌, ℕ, List, [], ◌∷◌, map, length, true, false, refl, sym, ap, subst, ◌∙◌, arith, Some, None}
-use Rattle.std.specs.Prelude.{codes, decimal}
+use Rattle.std.proofs.Common.{map, ◌∙◌, arith}
+use Rattle.std.specs.Prelude.{codes}
 use Rattle.std.specs.String.{string_bytes}
-use Rattle.std.proofs.lemmas.Bool.{false≢true}
 use Rattle.std.proofs.lemmas.List.{nil_from_length}
-use Rattle.mote_top.specs.Words.{IsName, FaultsAt, IsRun, IsGo}
 use Rattle.mote_top.proofs.WordFaults.{faults_go, faults_go_name, faults_go_more}
-use Rattle.mote_top.proofs.WordTests.{no_name, is_a_name, not_empty, is_nil, word-is, word-is_not, word-same, word-differs}
+use Rattle.mote_top.proofs.WordTests.{no_name, is_a_name, not_empty, word-is_not}
 use Rattle.mote_top.proofs.words.read_go.Goals as goal
 
 pub returns-in_default : goal.returns-in_default

@@ -1,11 +1,9 @@
-use Rattle.std.proofs.Common.{◌≡◌, ◌≢◌, ◌<◌, ◌^◌, ℕ, List, [], ◌∷◌, map, length, true, false, refl, sym, ap, subst, ◌∙◌, arith, Some, None}
-use Rattle.std.specs.Prelude.{codes, decimal}
+use Rattle.std.proofs.Common.{◌≡◌, map, refl, sym, ◌∙◌, arith}
+use Rattle.std.specs.Prelude.{decimal}
 use Rattle.std.specs.String.{string_bytes}
-use Rattle.std.proofs.lemmas.Bool.{false≢true}
 use Rattle.std.proofs.lemmas.List.{nil_from_length}
-use Rattle.mote_top.specs.Words.{IsName, FaultsAt, IsRun, IsGo}
 use Rattle.mote_top.proofs.WordFaults.{faults_go_option, faults_go_ticks, faults_go_end, faults_go_class, faults_go_rest}
-use Rattle.mote_top.proofs.WordTests.{no_name, is_a_name, not_empty, is_nil, word-is, word-is_not, word-same, word-differs}
+use Rattle.mote_top.proofs.WordTests.{no_name, is_a_name, not_empty}
 use Rattle.mote_top.proofs.words.read_go_ticks.Goals as goal
 
 pub returns-in_default : goal.returns-in_default

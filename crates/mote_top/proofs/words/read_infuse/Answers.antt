@@ -1,11 +1,8 @@
-use Rattle.std.proofs.Common.{◌≡◌, ℕ, List, [], ◌∷◌, map, length, true, false, refl, sym, ap, subst, ◌∙◌, arith}
-use Rattle.std.specs.Prelude.{codes, decimal}
+use Rattle.std.proofs.Common.{map, arith}
 use Rattle.std.specs.String.{string_bytes}
-use Rattle.std.proofs.lemmas.Bool.{false≢true}
 use Rattle.std.proofs.lemmas.List.{nil_from_length}
-use Rattle.mote_top.specs.Words.{IsName, FaultsAt}
 use Rattle.mote_top.proofs.WordFaults.{faults_infuse, faults_infuse_out, faults_infuse_end, faults_infuse_class, faults_infuse_more}
-use Rattle.mote_top.proofs.WordTests.{no_name, is_a_name, not_empty, word-same, word-differs}
+use Rattle.mote_top.proofs.WordTests.{no_name, is_a_name, not_empty}
 use Rattle.mote_top.proofs.words.read_infuse.Goals as goal
 
 pub returns-in_default : goal.returns-in_default

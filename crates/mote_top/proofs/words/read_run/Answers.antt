@@ -1,11 +1,9 @@
-use Rattle.std.proofs.Common.{◌≡◌, ◌≢◌, ◌<◌, ◌^◌, ℕ, List, [], ◌∷◌, map, length, true, false, refl, sym, ap, subst, ◌∙◌, arith, Some, None}
+use Rattle.std.proofs.Common.{◌≡◌, map, refl, sym, ◌∙◌, arith, Some}
 use Rattle.std.specs.Prelude.{codes, decimal}
 use Rattle.std.specs.String.{string_bytes}
-use Rattle.std.proofs.lemmas.Bool.{false≢true}
 use Rattle.std.proofs.lemmas.List.{nil_from_length}
-use Rattle.mote_top.specs.Words.{IsName, FaultsAt, IsRun, IsGo}
 use Rattle.mote_top.proofs.WordFaults.{faults_run, faults_run_name, faults_run_option, faults_run_end, faults_run_ticks, faults_run_more}
-use Rattle.mote_top.proofs.WordTests.{no_name, is_a_name, not_empty, is_nil, word-is, word-is_not, word-same, word-differs}
+use Rattle.mote_top.proofs.WordTests.{no_name, is_a_name, not_empty, is_nil, word-same, word-differs}
 use Rattle.mote_top.proofs.words.read_run.Goals as goal
 
 pub returns-in_default : goal.returns-in_default
@@ -46,7 +44,7 @@ returns-then-is_empty c =
     let number : string_bytes c.in-Some-split_first-2.number.now ≡ decimal c.in-Some-ticks_in.ticks = sym c.as_str-3.ensures.value ∙ c.in-Some-ticks_in.ensures.some in
     let none = is_nil c.in-Some-split_first-2.rest.now c.is_empty.result c.is_empty.ensures c.if-is_empty.true in
     rw (c.in-Some.ensures.cases.0, c.in-Some-split_first.ensures.cases.0, option, c.in-Some-split_first-2.ensures.cases.0, number, none)
-    (record { name = string_bytes c.in-Some.name.now; option = Some c.in-Some-ticks_in.ticks; words_are = refl; is_name = is_name; fits = omega arith; infusion_is = refl; ticks_are = refl })
+    (record { name = string_bytes c.in-Some.name.now; option = Some c.in-Some-ticks_in.ticks; words_are = refl; is_name = is_name; fits = omega arith; name_is = refl; opts_are = c.with_ticks.ensures })
 
 pub returns-else-is_empty : goal.returns-else-is_empty
 returns-else-is_empty c =

@@ -1,0 +1,10 @@
+pub mod Ranges
+pub mod Youngest
+pub mod Changed
+pub mod HalfWrites
+pub mod Shuffled
+pub mod Copies
+pub mod Walks
+pub mod RootCells
+pub mod Calls
+pub mod Filling

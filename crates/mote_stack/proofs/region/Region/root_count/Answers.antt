@@ -1,0 +1,81 @@
+use Rattle.std.proofs.Common.{◌+◌, ◌-◌, ap, arith}
+use Rattle.mote_stack.specs.Layout.{base_of}
+use Rattle.mote_stack.proofs.Youngest.{opened}
+use Rattle.mote_stack.proofs.Walks.{method_in, body_in, depth_in, frames_next, refs_next, refs_bound}
+use Rattle.mote_stack.proofs.region.Region.root_count.Goals as goal
+
+pub overflow_add-total : goal.overflow_add-total
+overflow_add-total c =
+    let bodies = c.self.inside.bodies.items in
+    let cells = c.self.inside.cells.items in
+    let count = c.self.inside.count - c.loop-step._step in
+    let end = c.loop-step.end in
+    let view = opened bodies cells count end (end - 4) c.loop-step.invariant.frames (omega arith) (omega arith) in
+    let last = view.header_last in
+    let below = view.is.body_below in
+    let fit = view.is.lists_fit in
+    let within = c.self.invariant.within in
+    let so_far = c.loop-step.invariant.within in
+    let depth = depth_in cells (end - 4) (c.from.result + 2) c.index.result.now (omega arith) (ap (λ n. n + 2) c.from.ensures) c.index.ensures in
+    let depth_as = c.from-total.ensures in
+    let bound = refs_bound bodies cells c.self.inside.count c.self.inside.used within c.self.invariant.in_frames in
+    let total = c.loop-step.invariant.total in
+    let next = refs_next bodies cells count end (end - 4) (count - 1) (base_of bodies cells (end - 4)) c.index.result.now view (omega arith) (omega arith) (omega arith) depth in
+    let small = c.self.invariant.size_small in
+    omega arith
+
+pub index-requires-in-loop-step-2 : goal.index-requires-in-loop-step-2
+index-requires-in-loop-step-2 c =
+    let bodies = c.self.inside.bodies.items in
+    let cells = c.self.inside.cells.items in
+    let count = c.self.inside.count - c.loop-step._step in
+    let end = c.loop-step.end in
+    let view = opened bodies cells count end (end - 4) c.loop-step.invariant.frames (omega arith) (omega arith) in
+    let last = view.header_last in
+    let below = view.is.body_below in
+    let fit = view.is.lists_fit in
+    let within = c.self.invariant.within in
+    let so_far = c.loop-step.invariant.within in
+    let known = method_in bodies cells count end (end - 4) c.from-in-loop-step.result c.index-in-loop-step.result.now c.from-in-loop-step-2.result view (omega arith) c.from-in-loop-step.ensures c.index-in-loop-step.ensures c.from-in-loop-step-2.ensures in
+    let long = c.self.inside.bodies.ok.0 in
+    omega arith
+
+pub overflow_sub-end : goal.overflow_sub-end
+overflow_sub-end c =
+    let bodies = c.self.inside.bodies.items in
+    let cells = c.self.inside.cells.items in
+    let count = c.self.inside.count - c.loop-step._step in
+    let end = c.loop-step.end in
+    let view = opened bodies cells count end (end - 4) c.loop-step.invariant.frames (omega arith) (omega arith) in
+    let last = view.header_last in
+    let below = view.is.body_below in
+    let fit = view.is.lists_fit in
+    let within = c.self.invariant.within in
+    let so_far = c.loop-step.invariant.within in
+    let body = body_in bodies cells count end (end - 4) c.from-in-loop-step.result c.index-in-loop-step.result.now c.from-in-loop-step-2.result c.index-in-loop-step-2.result.now view (omega arith) c.from-in-loop-step.ensures c.index-in-loop-step.ensures c.from-in-loop-step-2.ensures c.index-in-loop-step-2.ensures in
+    omega arith
+
+pub loop-step-preserved : goal.loop-step-preserved
+loop-step-preserved c =
+    let bodies = c.self.inside.bodies.items in
+    let cells = c.self.inside.cells.items in
+    let count = c.self.inside.count - c.loop-step._step in
+    let end = c.loop-step.end in
+    let view = opened bodies cells count end (end - 4) c.loop-step.invariant.frames (omega arith) (omega arith) in
+    let last = view.header_last in
+    let below = view.is.body_below in
+    let fit = view.is.lists_fit in
+    let within = c.self.invariant.within in
+    let so_far = c.loop-step.invariant.within in
+    let depth = depth_in cells (end - 4) (c.from.result + 2) c.index.result.now (omega arith) (ap (λ n. n + 2) c.from.ensures) c.index.ensures in
+    let depth_as = c.from-total.ensures in
+    let body = body_in bodies cells count end (end - 4) c.from-in-loop-step.result c.index-in-loop-step.result.now c.from-in-loop-step-2.result c.index-in-loop-step-2.result.now view (omega arith) c.from-in-loop-step.ensures c.index-in-loop-step.ensures c.from-in-loop-step-2.ensures c.index-in-loop-step-2.ensures in
+    let base = end - 4 - c.index-in-loop-step-2.result.now in
+    let older = c.self.inside.count - (c.loop-step._step + 1) in
+    let next = refs_next bodies cells count end (end - 4) older base c.index.result.now view (omega arith) (omega arith) (omega arith) depth in
+    let total = c.loop-step.invariant.total in
+    record {
+      frames = frames_next bodies cells count end (end - 4) older base view (omega arith) (omega arith);
+      total = omega arith;
+      within = omega arith;
+    }

@@ -1,0 +1,5 @@
+use Rattle.mote_top.proofs.Lasting.{refused_keeps}
+use Rattle.mote_top.proofs.laws.refused_sets_store_nothing.Goals as goal
+
+pub returns : goal.returns
+returns c = refused_keeps

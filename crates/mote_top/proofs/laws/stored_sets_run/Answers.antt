@@ -1,0 +1,5 @@
+use Rattle.mote_top.proofs.Lasting.{stored_runs}
+use Rattle.mote_top.proofs.laws.stored_sets_run.Goals as goal
+
+pub returns : goal.returns
+returns c = stored_runs

@@ -1,0 +1,9 @@
+import mote.Console;
+
+/** Shows Hi. */
+public class Hi {
+    public static void main() {
+        Console.write('H');
+        Console.write('i');
+    }
+}
