@@ -9,3 +9,5 @@ mod code;
 mod drafts;
 #[cfg(test)]
 mod laws;
+#[cfg(test)]
+mod sets;

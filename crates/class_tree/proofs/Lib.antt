@@ -1,0 +1,11 @@
+mod Rows
+mod Leading
+mod Finding
+mod Numbers
+mod Scans
+mod NameLists
+mod Within
+mod Tables
+mod Faults
+mod NamesOf
+mod Subtyping

@@ -1,0 +1,10 @@
+pub mod Closure
+pub mod Scan
+pub mod Set
+pub mod Names
+pub mod Supers
+pub mod Circles
+pub mod Descriptors
+pub mod Tree
+pub mod Kept
+pub mod Subtypes
