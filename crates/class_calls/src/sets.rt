@@ -91,7 +91,10 @@ fn tells_the_classes_of_a_set(rt: HostRuntime) -> Result<(), Fail> {
     assert_eq!(rt; set.number_of(b"mote/Console"), Some(14));
     assert_eq!(rt; set.number_of(b"Absent"), None);
     assert_eq!(rt; set.name_of(33), b"a/Named".as_slice());
-    assert_eq!(rt; set.name_of(10), b"java/lang/ArrayIndexOutOfBoundsException".as_slice());
+    assert_eq!(rt;
+        set.name_of(10),
+        b"java/lang/ArrayIndexOutOfBoundsException".as_slice()
+    );
     assert_eq!(rt; set.file(33).flags, INTERFACE);
     assert!(rt; is_subtype(&set, class(34), class(32)) && is_subtype(&set, class(34), class(33)));
     assert!(rt; is_subtype(&set, class(34), class(0)) && !is_subtype(&set, class(32), class(34)));

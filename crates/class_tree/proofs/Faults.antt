@@ -19,10 +19,10 @@ pub fault_more : (f : ℕ → Option Fault) (faults : List (Option Fault)) (x : 
     → (i : ℕ) → i < n + 1 → fault_at (faults ++ x ∷ []) i ≡ f i
 fault_more f faults x n many done new i lt =
     elim (cases_lt i n) [
-      inl less ↦ pushed_before faults x i (omega (arith, less, many)) ∙ done i less
-    | inr more ↦
-        let e : i ≡ n = omega (arith, lt, more) in
-        ap (fault_at (faults ++ x ∷ [])) (e ∙ sym many) ∙ pushed_there faults x ∙ new ∙ ap f (sym e)
+      | inl less ↦ pushed_before faults x i (omega (arith, less, many)) ∙ done i less
+      | inr more ↦
+          let e : i ≡ n = omega (arith, lt, more) in
+          ap (fault_at (faults ++ x ∷ [])) (e ∙ sym many) ∙ pushed_there faults x ∙ new ∙ ap f (sym e)
     ]
 
 beyond : (faults : List (Option Fault)) (i : ℕ) → length faults ≤ i → fault_at faults i ≡ None
@@ -45,6 +45,6 @@ pub fault_all : (g : List ℕ → Option Fault) (pool : Slots) (faults : List (O
     → ((i : ℕ) → i < n → fault_at faults i ≡ option_and_then g (utf8_at pool i)) → (i : ℕ) → fault_at faults i ≡ option_and_then g (utf8_at pool i)
 fault_all g pool faults n many whole done i =
     elim (cases_lt i n) [
-      inl less ↦ done i less
-    | inr more ↦ beyond faults i (omega (arith, more, many)) ∙ sym (ap (option_and_then g) (text_beyond pool i (omega (arith, more, whole))))
+      | inl less ↦ done i less
+      | inr more ↦ beyond faults i (omega (arith, more, many)) ∙ sym (ap (option_and_then g) (text_beyond pool i (omega (arith, more, whole))))
     ]

@@ -54,8 +54,8 @@ module _ (edge : Edges) where
   splits : (k from to : ℕ) → over (suc k) from to → over k from to ⊎ (over k from k × over k k to)
   splits k from to e =
       elim (or_cases (leads_over edge k from to) (leads_over edge k from k && leads_over edge k k to) (sym (over_suc k from to) ∙ e)) [
-        inl left ↦ inl left
-      | inr right ↦ inr (and_cases (leads_over edge k from k) (leads_over edge k k to) right)
+        | inl left ↦ inl left
+        | inr right ↦ inr (and_cases (leads_over edge k from k) (leads_over edge k k to) right)
       ]
 
   goes_on : (k from to : ℕ) → over k from to → over (suc k) from to
@@ -75,8 +75,8 @@ module _ (edge : Edges) where
   sound zero from to e = AtOnce (sym (over_zero from to) ∙ e)
   sound (suc k) from to e =
       elim (splits k from to e) [
-        inl here ↦ sound k from to here
-      | inr (first, second) ↦ follows from k to (sound k from k first) (sound k k to second)
+        | inl here ↦ sound k from to here
+        | inr (first, second) ↦ follows from k to (sound k from k first) (sound k k to second)
       ]
 
   from_zero : (k from to : ℕ) → edge from to ≡ true → over k from to
@@ -95,13 +95,13 @@ module _ (edge : Edges) where
       → over (suc k) from by → over (suc k) by to → over (suc k) from to
   by_fewer k from by to join e f =
       elim (splits k from by e) [
-        inl a ↦ elim (splits k by to f) [
-          inl b ↦ goes_on k from to (join from to a b)
-        | inr (b, last) ↦ joins k from to (join from k a b) last
+        | inl a ↦ elim (splits k by to f) [
+          | inl b ↦ goes_on k from to (join from to a b)
+          | inr (b, last) ↦ joins k from to (join from k a b) last
         ]
-      | inr (first, a) ↦ elim (splits k by to f) [
-          inl b ↦ joins k from to first (join k to a b)
-        | inr (b, last) ↦ joins k from to first last
+        | inr (first, a) ↦ elim (splits k by to f) [
+          | inl b ↦ joins k from to first (join k to a b)
+          | inr (b, last) ↦ joins k from to first last
         ]
       ]
 
@@ -113,8 +113,8 @@ module _ (edge : Edges) where
   through zero from by to lt e f = absurd (omega (arith, lt))
   through (suc k) from by to lt e f =
       elim (below k by lt) [
-        inl fewer ↦ by_fewer k from by to (λ first last. through k first by last fewer) e f
-      | inr is ↦ by_last k from by to is e f
+        | inl fewer ↦ by_fewer k from by to (λ first last. through k first by last fewer) e f
+        | inr is ↦ by_last k from by to is e f
       ]
 
   -- a way is one over all numbers, where all that is led to is among them
@@ -131,12 +131,12 @@ module _ (edge : Edges) where
       record {
         square = rounds_square count k old new o.square r;
         says = λ from to is_from is_to.
-          let step = r.steps from (subst (λ n. from < n) (sym o.square.many) is_from) in
-          step.says to
-          ∙ ap (λ x. x || (at old from k && at old k to)) (o.says from to is_from is_to)
-          ∙ ap (λ x. leads_over edge k from to || (x && at old k to)) (o.says from k is_from lt)
-          ∙ ap (λ x. leads_over edge k from to || (leads_over edge k from k && x)) (o.says k to lt is_to)
-          ∙ sym (over_suc k from to) ∙ ap (λ n. leads_over edge n from to) (sym (add-one k));
+            let step = r.steps from (subst (λ n. from < n) (sym o.square.many) is_from) in
+            step.says to
+            ∙ ap (λ x. x || (at old from k && at old k to)) (o.says from to is_from is_to)
+            ∙ ap (λ x. leads_over edge k from to || (x && at old k to)) (o.says from k is_from lt)
+            ∙ ap (λ x. leads_over edge k from to || (leads_over edge k from k && x)) (o.says k to lt is_to)
+            ∙ sym (over_suc k from to) ∙ ap (λ n. leads_over edge n from to) (sym (add-one k));
       }
 
   -- after all rounds the table says what leads where
@@ -145,5 +145,5 @@ module _ (edge : Edges) where
       record {
         square = o.square;
         says = λ from to is_from is_to.
-          (λ e. sound count from to (sym (o.says from to is_from is_to) ∙ e), λ p. o.says from to is_from is_to ∙ complete count from to stays p);
+            (λ e. sound count from to (sym (o.says from to is_from is_to) ∙ e), λ p. o.says from to is_from is_to ∙ complete count from to stays p);
       }

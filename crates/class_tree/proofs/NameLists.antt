@@ -13,6 +13,6 @@ pub pushed : (keys : List (Vec ℕ Global)) (v : Vec ℕ Global) (names : List (
     → map (λ (k : Vec ℕ Global). k.items) (cond (list_any (λ (k : Vec ℕ Global). bytes_eq v.items k.items) keys) keys (keys ++ v ∷ [])) ≡ names ++ v.items ∷ []
 pushed keys v names is none =
     let e : list_any (λ (k : Vec ℕ Global). bytes_eq v.items k.items) keys ≡ false =
-        sym (list_any_map (λ (k : Vec ℕ Global). k.items) (bytes_eq v.items) keys) ∙ ap (list_any (bytes_eq v.items)) is ∙ none in
+    sym (list_any_map (λ (k : Vec ℕ Global). k.items) (bytes_eq v.items) keys) ∙ ap (list_any (bytes_eq v.items)) is ∙ none in
     ap (λ b. map (λ (k : Vec ℕ Global). k.items) (cond b keys (keys ++ v ∷ []))) e
     ∙ map-append (λ (k : Vec ℕ Global). k.items) keys (v ∷ []) ∙ ap (λ l. l ++ v.items ∷ []) is

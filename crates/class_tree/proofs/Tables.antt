@@ -26,11 +26,11 @@ module _ (edge : Edges) (count : ℕ) where
   rows_more rows n row many done new from lt =
       let P : List Bool → Type 0 = λ r. IsRowOf edge count from r in
       elim (cases_lt from n) [
-        inl less ↦ subst P (sym (row_earlier rows row from (subst (λ m. from < m) (sym many) less))) (done from less)
-      | inr more ↦
-          let e : length rows ≡ from = omega (arith, lt, more, many) in
-          let Q : ℕ → Type 0 = λ m. IsRowOf edge count m row.items in
-          subst P (sym (ap (λ m. get_or (lists (rows ++ row ∷ [])) m []) (sym e) ∙ row_pushed rows row)) (subst Q (sym many ∙ e) new)
+        | inl less ↦ subst P (sym (row_earlier rows row from (subst (λ m. from < m) (sym many) less))) (done from less)
+        | inr more ↦
+            let e : length rows ≡ from = omega (arith, lt, more, many) in
+            let Q : ℕ → Type 0 = λ m. IsRowOf edge count m row.items in
+            subst P (sym (ap (λ m. get_or (lists (rows ++ row ∷ [])) m []) (sym e) ∙ row_pushed rows row)) (subst Q (sym many ∙ e) new)
       ]
 
   pub table_begins : (rows : List (Vec Bool Global)) → length rows ≡ count → AreRows count rows → AreOver edge count 0 (lists rows)

@@ -45,8 +45,8 @@ any_within : (names : List (List ℕ)) (file : ClassFile) (to : ℕ) (indexes : 
 any_within names file to [] e = cc
 any_within names file to (index ∷ indexes) e =
     elim (or_cases (is_number to (named_among names file index)) (list_any (λ i. is_number to (named_among names file i)) indexes) e) [
-      inl here ↦ named_in names (class_name_at file.pool index) to (is_number_same to (named_among names file index) here)
-    | inr later ↦ any_within names file to indexes later
+      | inl here ↦ named_in names (class_name_at file.pool index) to (is_number_same to (named_among names file index) here)
+      | inr later ↦ any_within names file to indexes later
     ]
 
 file_within : (names : List (List ℕ)) (o : Option ClassFile) (to : ℕ) → option_map_or (names_super names to) o false ≡ true → to < 32 + length names

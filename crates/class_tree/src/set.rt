@@ -107,6 +107,11 @@ impl ClassSet {
         requires upper { IsClass self.now upper }
         ensures { MatchBool result (IsSubclass self.now lower upper) (¬ IsSubclass self.now lower upper) }
     {
-        lower == upper || leads(self.above.as_slice(), usize::from(lower), usize::from(upper))
+        lower == upper
+            || leads(
+                self.above.as_slice(),
+                usize::from(lower),
+                usize::from(upper),
+            )
     }
 }

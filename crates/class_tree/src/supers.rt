@@ -58,7 +58,8 @@ fn lacks_super(names: &Names, file: &ClassFile) -> bool
     requires { length names.now ≤ 512 }
     ensures { result ≡ lacks_super_of names.now file.now }
 {
-    named(names, file, file.super_class).is_none() || lacks_one(names, file, file.interfaces.as_slice())
+    named(names, file, file.super_class).is_none()
+        || lacks_one(names, file, file.interfaces.as_slice())
 }
 
 /// The set lacks a class that one of these entries names.
@@ -66,7 +67,9 @@ fn lacks_one(names: &Names, file: &ClassFile, indexes: &[u16]) -> bool
     requires { length names.now ≤ 512 }
     ensures { result ≡ list_any (λ index. is_none (named_among names.now file.now index)) indexes.now }
 {
-    indexes.iter().any(|index| named(names, file, *index).is_none())
+    indexes
+        .iter()
+        .any(|index| named(names, file, *index).is_none())
 }
 
 /// The class may not be the superclass of the file's class.
@@ -97,9 +100,7 @@ fn has_bad_interface(names: &Names, files: &[ClassFile], file: &ClassFile, index
     requires { length names.now ≤ 512 }
     ensures { result ≡ list_any (λ index. is_bad_interface_of files.now (named_among names.now file.now index)) indexes.now }
 {
-    indexes
-        .iter()
-        .any(|index| is_bad_interface(files, named(names, file, *index)))
+    indexes.iter().any(|index| is_bad_interface(files, named(names, file, *index)))
 }
 
 /// What the file is refused for by what stands directly above its class.

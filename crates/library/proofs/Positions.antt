@@ -25,6 +25,6 @@ module _ {X : Type 0} (p : X → Bool) (xs : List X) (d : X) where
   pub fails_more : (e : X) (n : ℕ) → n < length xs → ((k : ℕ) → k < n → p (get_or xs k d) ≡ false) → p (get_or xs n e) ≡ false → (k : ℕ) → k < n + 1 → p (get_or xs k d) ≡ false
   fails_more e n within earlier here k lt =
       elim (cases_lt k n) [
-        inl less ↦ earlier k less
-      | inr more ↦ ap (λ j. p (get_or xs j d)) (omega (arith, lt, more)) ∙ ap p (get_or_default xs n d e within) ∙ here
+        | inl less ↦ earlier k less
+        | inr more ↦ ap (λ j. p (get_or xs j d)) (omega (arith, lt, more)) ∙ ap p (get_or_default xs n d e within) ∙ here
       ]

@@ -6,5 +6,5 @@ use Rattle.class_tree.proofs.above.mark_named.Given as goal
 abbrev pub invariant-loop-index : goal.invariant-loop-index
 invariant-loop-index l = record {
   long : length l.row.items ≡ length l.fn.row.items;
-  says : (to : ℕ) → get_or l.row.items to false ≡ (get_or l.fn.row.items to false || list_any (λ index. is_number to (named_among l.names l.file index)) (take l.index-index l.indexes))
+  says : (to : ℕ) → get_or l.row.items to false ≡ (get_or l.fn.row.items to false || list_any (λ index. is_number to (named_among l.names l.file index)) (take l.index-index l.indexes));
 }

@@ -6,5 +6,5 @@ use Rattle.class_tree.proofs.above.table_of.Given as goal
 abbrev pub invariant-loop-class : goal.invariant-loop-class
 invariant-loop-class l = record {
   many : length l.rows.items ≡ l.class;
-  done : (from : ℕ) → from < l.class → IsRowOf (is_directly_below l.names l.files) (32 + length l.names) from (get_or (map (λ v. v.items) l.rows.items) from [])
+  done : (from : ℕ) → from < l.class → IsRowOf (is_directly_below l.names l.files) (32 + length l.names) from (get_or (map (λ v. v.items) l.rows.items) from []);
 }

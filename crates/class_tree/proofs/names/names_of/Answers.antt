@@ -12,8 +12,8 @@ returns-in-Err-clause-refused c =
     let class = c.index-files-file.result in
     let named = ap (λ (names : List (List ℕ)). fault_after names c.loop-file.file (own_name class)) (sym c.loop-file.invariant.named) in
     elim (c.in-Err.ensures.refused) [
-      inl memory ↦ inl memory
-    | inr fault ↦ inr (sym c.loop-file.invariant.scanned ∙ scan_here (name_fault files) files c.loop-file.file class c.in-Err.why c.loop-file-test.true c.index-files-file.is (named ∙ fault))
+      | inl memory ↦ inl memory
+      | inr fault ↦ inr (sym c.loop-file.invariant.scanned ∙ scan_here (name_fault files) files c.loop-file.file class c.in-Err.why c.loop-file-test.true c.index-files-file.is (named ∙ fault))
     ]
 
 pub loop-file-preserved : goal.loop-file-preserved

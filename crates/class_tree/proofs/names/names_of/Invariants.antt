@@ -7,5 +7,5 @@ use Rattle.class_tree.proofs.names.names_of.Given as goal
 abbrev pub invariant-loop-file : goal.invariant-loop-file
 invariant-loop-file l = record {
   named : l.names ≡ map own_name (take l.file l.files);
-  scanned : first_refusal (name_fault l.files) l.file (drop l.file l.files) ≡ names_refusal l.files
+  scanned : first_refusal (name_fault l.files) l.file (drop l.file l.files) ≡ names_refusal l.files;
 }
