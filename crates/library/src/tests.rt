@@ -1,7 +1,8 @@
 use crate::{CLASS_COUNT, FIRST_OWN, Native, class_name, superclass_of};
+use std::test::*;
 
 #[test]
-fn knows_its_classes_and_natives(rt: TestRuntime) {
+fn knows_its_classes_and_natives(rt: HostRuntime) {
     assert!(rt; CLASS_COUNT < FIRST_OWN);
     assert_eq!(rt; class_name(14), Some(b"mote/Console".as_slice()));
     assert_eq!(rt; class_name(15), None);
