@@ -1,5 +1,8 @@
 //! Closed sets of classes: what they tell, and what files are refused for.
 
+ghost use Rattle.std.specs.Prelude.{◌≡◌};
+ghost use Rattle.class_pool.specs.declared.types.TypeBase.TheVariants.{Class};
+
 use class_file::ClassFile;
 use class_make::{ClassDraft, DraftRefusal};
 use class_pool::{Const, TypeBase, TypeRef};
@@ -65,14 +68,18 @@ fn refusal_of(alloc: Global, rows: &[Row]) -> Result<Option<TreeRefusal>, DraftR
     }
 }
 
-fn class(class: u16) -> TypeRef {
+fn class(class: u16) -> TypeRef
+    ensures { result ≡ record { dims = 0; base = Class class } }
+{
     TypeRef {
         dims: 0,
         base: TypeBase::Class(class),
     }
 }
 
-fn array(base: TypeBase) -> TypeRef {
+fn array(base: TypeBase) -> TypeRef
+    ensures { result ≡ record { dims = 1; base = base } }
+{
     TypeRef { dims: 1, base }
 }
 
