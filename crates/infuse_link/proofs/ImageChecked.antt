@@ -1,21 +1,23 @@
 -- The image of an accepted set is of the grammar, checked and built.
-use Rattle.std.proofs.Common.{◌≡◌, ℕ, ◌+◌, ◌<◌, true, List, [], ◌∷◌, length, refl, ap, subst, arith, inl, inr}
+use Rattle.std.proofs.Common.{◌≡◌, ℕ, ◌+◌, ◌<◌, ◌≤◌, Bool, true, false, cond, List, [], ◌∷◌, length, refl, ap, subst, arith, inl, inr}
 use Rattle.std.specs.List.{AllByRecursion}
 use Rattle.std.proofs.lemmas.List.{length-append}
 use Rattle.class_file.specs.declared.record.ClassFile.{ClassFile}
 use Rattle.class_file.specs.declared.record.CodeAttr.{CodeAttr}
+use Rattle.class_file.specs.Rules.{is_abstract}
 use Rattle.image_form.specs.declared.record.Image.{Image}
 use Rattle.image_form.specs.declared.record.Method.{Method}
-use Rattle.image_form.specs.Grammar.{IsImage}
-use Rattle.image_form.specs.SmallForm.{small_class, small_method, IsSmall}
+use Rattle.image_form.specs.Grammar.{IsClass, IsImage}
+use Rattle.image_form.specs.SmallForm.{small_class, small_method, small_image, IsSmall}
 use Rattle.image_form.proofs.SmallImage.{small_is_image}
+use Rattle.image_check.specs.BuiltForm.{has_built_form}
 use Rattle.image_check.specs.Checked.{IsChecked, IsBuilt}
 use Rattle.jvm_model.specs.Program.{Family}
 use Rattle.jvm_model.specs.Body.{Body}
 use Rattle.jvm_model.specs.NumberForm.{HasNumberForm, is_of_form, targets, is_in, all_targets}
 use Rattle.jvm_model.specs.FrameCells.{slot_of, cells_below, greatest_height, body_cells}
 use Rattle.jvm_model.specs.Expansion.{Emitted, emitted_bytes, offset_of}
-use Rattle.jvm_model.specs.ImageOf.{object_id, name_of_class, code_for, image_of}
+use Rattle.jvm_model.specs.ImageOf.{object_id, name_of_class, entry_flags, class_entry, code_for, image_of}
 use Rattle.jvm_model.proofs.NumberSets.{IsNumberSet}
 use Rattle.infuse_link.proofs.PoolEntries.{class_name_at-fits}
 use Rattle.infuse_link.proofs.BodyPlaces.{Has, contains_from, all_has}
@@ -37,6 +39,67 @@ all_both P Q (x ∷ xs) left right = ((left.0, right.0), all_both P Q xs left.1 
 bytes-some : (image : Image) (method : Method) (Lands : ℕ → Type 0) (cells : ℕ) (es : List Emitted) → AreGood image method Lands cells es → 0 < length es → 0 < length (bytes_of es)
 bytes-some image method Lands cells [] good some = absurd (omega arith)
 bytes-some image method Lands cells (e ∷ es) good some = omega (arith, size-some e good.0.is_insn, length-append (emitted_bytes e) (bytes_of es))
+
+-- ---- the flags of the class
+
+flags_fit : (abstract : Bool) → cond abstract 2 0 ≤ 3
+flags_fit true = omega arith
+flags_fit false = omega arith
+
+built_form : (abstract : Bool) (parent : ℕ) (name : List ℕ) (locals room : ℕ) (bytes : List ℕ) → has_built_form (small_image (class_entry parent (cond abstract 2 0) name) (small_method 0 locals room bytes)) ≡ true
+built_form true parent name locals room bytes = refl
+built_form false parent name locals room bytes = refl
+
+class_with : (parent flags : ℕ) (name : List ℕ) → flags ≤ 3 → IsClass [] (small_class parent name) → IsClass [] (class_entry parent flags name)
+class_with parent flags name fit is = record {
+  parent_fits = is.parent_fits;
+  parent_is = is.parent_is;
+  flags_are = fit;
+  refs_cover = is.refs_cover;
+  nums_cover = is.nums_cover;
+  object_fits = is.object_fits;
+  interfaces_fit = is.interfaces_fit;
+  interfaces_are = tt;
+  rows_fit = is.rows_fit;
+  rows_hold = inr refl;
+  rows_are = tt;
+  name_fits = is.name_fits;
+}
+
+-- an image of the small form is of the grammar with other flags, too
+image_with : (parent flags : ℕ) (name : List ℕ) (locals room : ℕ) (bytes : List ℕ) → flags ≤ 3 → IsImage (small_image (small_class parent name) (small_method 0 locals room bytes))
+    → IsImage (small_image (class_entry parent flags name) (small_method 0 locals room bytes))
+image_with parent flags name locals room bytes fit is =
+    let method = is.methods_are.0 in
+    record {
+      version_is = refl;
+      types_fit = is.types_fit;
+      types_are = (class_with parent flags name fit is.types_are.0, tt);
+      selectors_fit = is.selectors_fit;
+      selectors_are = tt;
+      methods_fit = is.methods_fit;
+      methods_are = (
+        record {
+          sig_is = method.sig_is;
+          refs_cover = method.refs_cover;
+          cells_cover = method.cells_cover;
+          locals_fit = method.locals_fit;
+          body_fits = method.body_fits;
+          code_some = method.code_some;
+          code_fits = method.code_fits;
+          handlers_fit = method.handlers_fit;
+          handlers_are = tt;
+        },
+        tt,
+      );
+      static_refs_fit = is.static_refs_fit;
+      static_cells_fit = is.static_cells_fit;
+      static_cells_are = tt;
+      main_is = is.main_is;
+      rows_are = (tt, tt);
+    }
+
+-- ---- the image
 
 -- main of the image
 abbrev pub main_method : CodeAttr → Body → Method
@@ -85,9 +148,10 @@ module _ (files : List (List ℕ)) (file : ClassFile) (code : CodeAttr) (body : 
   image_checked = (method_checked (image_of file code body) (main_method code body) (instructions body) code_is last.0 last.1 good, tt)
 
   pub image_built : IsBuilt (image_of file code body)
-  image_built = record { form = refl; methods = (method_built (image_of file code body) (main_method code body) (instructions body) code_is last.0 last.1 good, tt) }
+  image_built = record { form = built_form (is_abstract file.flags) object_id (name_of_class file) (cells_below body code.max_locals) (body_cells code.max_locals body) (code_for body); methods = (method_built (image_of file code body) (main_method code body) (instructions body) code_is last.0 last.1 good, tt) }
 
-  image_small : IsSmall (image_of file code body)
+  -- without the flags
+  image_small : IsSmall (small_image (small_class object_id (name_of_class file)) (main_method code body))
   image_small = record {
     class = small_class object_id (name_of_class file);
     method = main_method code body;
@@ -113,4 +177,6 @@ module _ (files : List (List ℕ)) (file : ClassFile) (code : CodeAttr) (body : 
   }
 
   pub image_is_image : IsImage (image_of file code body)
-  image_is_image = small_is_image (image_of file code body) image_small
+  image_is_image =
+      image_with object_id (entry_flags file.flags) (name_of_class file) (cells_below body code.max_locals) (body_cells code.max_locals body) (code_for body) (flags_fit (is_abstract file.flags))
+      (small_is_image (small_image (small_class object_id (name_of_class file)) (main_method code body)) image_small)

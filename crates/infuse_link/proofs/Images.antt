@@ -11,13 +11,13 @@ use Rattle.class_file.specs.declared.record.Member.{Member}
 use Rattle.jvm_model.specs.Program.{Family}
 use Rattle.class_code.specs.Code.{Insns, decoded}
 use Rattle.image_form.specs.declared.record.Image.{Image}
-use Rattle.image_form.specs.SmallForm.{small_class, small_method, small_image}
+use Rattle.image_form.specs.SmallForm.{small_method, small_image}
 use Rattle.jvm_model.specs.Body.{Body, families_of}
 use Rattle.jvm_model.specs.ProgramOf.{body_of, insns_in}
 use Rattle.jvm_model.specs.NumberForm.{HasNumberForm, HasNumberMain, IsBelow, writes}
 use Rattle.jvm_model.specs.FrameCells.{is_number, is_written, cells_below, slot_of, number_cells, greatest_height, body_cells, frame_cells}
 use Rattle.jvm_model.specs.Expansion.{family_bytes, body_bytes, size_of, offset_of}
-use Rattle.jvm_model.specs.ImageOf.{code_for, image_of, object_id, name_of_class}
+use Rattle.jvm_model.specs.ImageOf.{code_for, image_of, entry_of}
 use Rattle.jvm_model.proofs.NumberSets.{IsNumberSet}
 use Rattle.infuse_link.specs.declared.locals.Slots.{Slots}
 use Rattle.infuse_link.specs.declared.offsets.Offsets.{Offsets}
@@ -145,10 +145,10 @@ all_fit files file code body accepted slot place e f =
 
 -- ---- the image
 
-pub made_is : (file : ClassFile) (code : CodeAttr) (body : Body) (image : Image) (cells room : ℕ) (bytes : List ℕ) → image ≡ small_image (small_class object_id (name_of_class file)) (small_method 0 cells room bytes)
+pub made_is : (file : ClassFile) (code : CodeAttr) (body : Body) (image : Image) (cells room : ℕ) (bytes : List ℕ) → image ≡ small_image (entry_of file) (small_method 0 cells room bytes)
     → cells ≡ cells_below body code.max_locals → room ≡ body_cells code.max_locals body → bytes ≡ code_for body → image ≡ image_of file code body
 made_is file code body image cells room bytes made e f g =
-    let of = λ (c b : ℕ) (m : List ℕ). small_image (small_class object_id (name_of_class file)) (small_method 0 c b m) in
+    let of = λ (c b : ℕ) (m : List ℕ). small_image (entry_of file) (small_method 0 c b m) in
     made ∙ ap (λ (c : ℕ). of c room bytes) e ∙ ap (λ (b : ℕ). of (cells_below body code.max_locals) b bytes) f
     ∙ ap (λ (m : List ℕ). of (cells_below body code.max_locals) (body_cells code.max_locals body) m) g
 

@@ -3,16 +3,17 @@
 ghost use Rattle.std.specs.Prelude.{◌≡◌, ℕ, ◌≤◌, ◌⊎◌, true, List, [], ◌∷◌, map, Some, None, Ok, Err, IfOk, IfErr};
 ghost use Rattle.std.specs.List.{AllByRecursion};
 ghost use Rattle.std.specs.Option.{option_copied};
+ghost use Rattle.class_file.specs.Rules.{is_abstract};
 ghost use Rattle.class_file.specs.declared.record.ClassFile.{ClassFile as Record};
 ghost use Rattle.class_file.specs.declared.record.CodeAttr.{CodeAttr as MainCode};
 ghost use Rattle.image_form.specs.declared.record.Image.{Image as SetImage};
-ghost use Rattle.image_form.specs.SmallForm.{small_class, small_method, small_image};
+ghost use Rattle.image_form.specs.SmallForm.{small_method, small_image};
 ghost use Rattle.jvm_model.specs.declared.refusal.Cause.TheVariants as cause;
 ghost use Rattle.jvm_model.specs.declared.refusal.Refusal.{Refusal as Reason};
 ghost use Rattle.jvm_model.specs.Body.{Body};
 ghost use Rattle.jvm_model.specs.NumberForm.{is_of_form, HasNumberForm};
 ghost use Rattle.jvm_model.specs.FrameCells.{greatest_height};
-ghost use Rattle.jvm_model.specs.ImageOf.{object_id, name_of_class, image_of};
+ghost use Rattle.jvm_model.specs.ImageOf.{entry_flags, entry_of, image_of};
 ghost use Rattle.jvm_model.specs.SetImage.{IsImageOf};
 ghost use Rattle.jvm_model.specs.Phases.{SetSize};
 ghost use Rattle.jvm_model.specs.Verdict.{IsRefused};
@@ -217,6 +218,20 @@ fn infuse_body(
     )
 }
 
+/// The flags have ACC_ABSTRACT.
+fn is_abstract(flags: u16) -> bool
+    ensures { result ≡ is_abstract flags }
+{
+    flags & 0x0400 != 0
+}
+
+/// The flags of the entry of a class that has these flags: an abstract class has 2.
+fn entry_flags(flags: u16) -> u8
+    ensures { result ≡ entry_flags flags }
+{
+    if is_abstract(flags) { 2 } else { 0 }
+}
+
 /// The image of a class below Object and its main.
 fn image(
     alloc: Global,
@@ -225,7 +240,7 @@ fn image(
     body: u16,
     code: Vec<u8>,
 ) -> Result<Image, Stop>
-    ensures value { IfOk result (λ image. image ≡ small_image (small_class object_id (name_of_class file.now)) (small_method 0 cell_locals body code.items)) }
+    ensures value { IfOk result (λ image. image ≡ small_image (entry_of file.now) (small_method 0 cell_locals body code.items)) }
     ensures memory { IfErr result (λ why. why ≡ Memory) }
 {
     let name = match file.pool.class_name(file.this_class) {
@@ -235,7 +250,7 @@ fn image(
     let mut types = Vec::new(alloc);
     types.push(TypeEntry::Class(ClassEntry {
         parent: 0,
-        flags: 0,
+        flags: entry_flags(file.flags),
         refs: 0,
         nums: 0,
         interfaces: Items::empty(alloc),

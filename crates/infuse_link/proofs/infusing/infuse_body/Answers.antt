@@ -1,10 +1,10 @@
 use Rattle.std.proofs.Common.{◌≡◌, ℕ, ◌+◌, ◌*◌, ◌<◌, min, ◌∷◌, [], length, refl, ap, ◌∙◌, arith}
 use Rattle.std.proofs.lemmas.Bool.Decides.{nat_tests}
 use Rattle.image_form.specs.declared.record.Image.{Image}
-use Rattle.image_form.specs.SmallForm.{small_class, small_method, small_image}
+use Rattle.image_form.specs.SmallForm.{small_method, small_image}
 use Rattle.jvm_model.specs.FrameCells.{frame_cells}
 use Rattle.jvm_model.specs.Phases.{saturated}
-use Rattle.jvm_model.specs.ImageOf.{code_for, object_id, name_of_class}
+use Rattle.jvm_model.specs.ImageOf.{code_for, entry_of}
 use Rattle.jvm_model.proofs.NumberSets.{IsNumberSet}
 use Rattle.infuse_link.specs.NumberInsns.{body_meant}
 use Rattle.infuse_link.specs.Tests.{slot_in}
@@ -89,7 +89,7 @@ returns-clause-found c =
     let cells = c.cells-2.ensures ∙ e.cells ∙ cells_same body code.max_locals in
     let room = body_is code.max_locals c.cells.result c.in_ok-greatest.greatest body (c.cells.ensures ∙ e.cells) c.in_ok-greatest.ensures.value in
     let bytes = c.in_ok-machine_code.ensures ∙ code_is (slot_in c.in_ok-slots.slots) (place_in c.in_ok-offsets.offsets) body slot place in
-    if_ok (λ (image : Image). image ≡ small_image (small_class object_id (name_of_class file)) (small_method 0 c.cells-2.result (c.cells.result + 2 * c.in_ok-greatest.greatest) c.in_ok-machine_code.machine_code.items)) (IsClassImage file) c.image.result
+    if_ok (λ (image : Image). image ≡ small_image (entry_of file) (small_method 0 c.cells-2.result (c.cells.result + 2 * c.in_ok-greatest.greatest) c.in_ok-machine_code.machine_code.items)) (IsClassImage file) c.image.result
     (λ image made. record {
       code = code;
       body = body;
