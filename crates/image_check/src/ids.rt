@@ -11,12 +11,7 @@ ghost use Rattle.image_check.specs.Refused.{IsFault};
 use crate::refusal::{CheckCause, Fault};
 use image_form::{Image, Method, TypeEntry, names_interface, names_type, signature_in};
 use image_instr::{Kind, MInsn, Sig, Width};
-
-/// The first id of the types and of the methods of an image; those below are the library's.
-pub(crate) const FIRST_OWN: u16 = 32;
-
-/// How many of the library's ids name a type.
-const LIBRARY_TYPES: u16 = 15;
+use library::{CLASS_COUNT, FIRST_OWN};
 
 /// The signature of what is not called.
 const NO_SIGNATURE: Sig = Sig {
@@ -96,7 +91,7 @@ fn names_concrete(types: &[TypeEntry], id: u16) -> bool
     ensures { result ≡ names_concrete_of types.now id }
 {
     if id < FIRST_OWN {
-        return id < LIBRARY_TYPES;
+        return id < CLASS_COUNT;
     }
     match entry_of(types, id) {
         Some(TypeEntry::Class(class)) => class.flags == 0,

@@ -13,12 +13,13 @@ ghost use Rattle.image_check.specs.Refused.{IsFault, IsUnbuiltAt, FailsThere, Is
 use crate::built::first_unbuilt;
 use crate::built_form::has_built_form;
 use crate::flow::follow_depths;
-use crate::ids::{FIRST_OWN, test_ids};
+use crate::ids::test_ids;
 use crate::jumps::test_targets;
 use crate::listing::list_insns;
 use crate::names::type_name;
 use crate::refusal::{CheckCause, CheckRefusal, Fault};
 use image_form::{Image, Method};
+use library::FIRST_OWN;
 use std::alloc::Global;
 use std::marker::Model;
 
