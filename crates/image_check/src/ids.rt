@@ -114,7 +114,8 @@ fn names_array(types: &[TypeEntry], id: u16) -> bool
     )
 }
 
-/// Whether the id names an array type of at least so many dimensions.
+/// Whether the id names an array type of at least so many dimensions. The table tells it; the types that
+/// it is made of are here for the contract alone.
 fn has_dimensions(types: &[TypeEntry], table: &[u8], dimensions: u8, id: u16) -> bool
     requires { AreDimensions types.now table.now }
     ensures { result ≡ has_dimensions_of types.now dimensions id }
