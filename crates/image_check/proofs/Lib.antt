@@ -8,4 +8,4 @@ pub mod Spreading
 pub mod Flowing
 pub mod Ending
 pub mod Apart
-pub mod Dimensions
+pub mod ArrayTables

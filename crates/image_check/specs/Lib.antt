@@ -10,3 +10,4 @@ pub mod Targets
 pub mod Table
 pub mod Flow
 pub mod Names
+pub mod Dimensions

@@ -5,18 +5,15 @@ ghost use Rattle.std.specs.List.{AllByRecursion};
 ghost use Rattle.image_form.specs.declared.record.Image.{Image};
 ghost use Rattle.image_form.specs.Library.{signature as signature_is};
 ghost use Rattle.image_check.specs.Code.{CodeIs};
-ghost use Rattle.image_check.specs.Ids.{called_by as called_sig, kind_of as kind_for, names_concrete as names_concrete_of, names_array as names_array_of, element_of as element_in, has_dimensions as has_dimensions_of, HasLocal, HasStatic, TakesReceiver, HasIds};
+ghost use Rattle.image_check.specs.Ids.{called_by as called_sig, kind_of as kind_for, names_concrete as names_concrete_of, names_array as names_array_of, has_dimensions as has_dimensions_of, HasLocal, HasStatic, TakesReceiver, HasIds};
+ghost use Rattle.image_check.specs.Dimensions.{AreDimensions};
 ghost use Rattle.image_check.specs.Refused.{IsFault};
 
+use crate::dimensions::dimensions_in;
 use crate::refusal::{CheckCause, Fault};
 use image_form::{Image, Method, TypeEntry, names_interface, names_type, signature_in};
 use image_instr::{Kind, MInsn, Sig, Width};
-
-/// The first id of the types and of the methods of an image; those below are the library's.
-pub(crate) const FIRST_OWN: u16 = 32;
-
-/// How many of the library's ids name a type.
-const LIBRARY_TYPES: u16 = 15;
+use library::{CLASS_COUNT, FIRST_OWN};
 
 /// The signature of what is not called.
 const NO_SIGNATURE: Sig = Sig {
@@ -96,7 +93,7 @@ fn names_concrete(types: &[TypeEntry], id: u16) -> bool
     ensures { result ≡ names_concrete_of types.now id }
 {
     if id < FIRST_OWN {
-        return id < LIBRARY_TYPES;
+        return id < CLASS_COUNT;
     }
     match entry_of(types, id) {
         Some(TypeEntry::Class(class)) => class.flags == 0,
@@ -117,31 +114,14 @@ fn names_array(types: &[TypeEntry], id: u16) -> bool
     )
 }
 
-/// The type of the elements of an array type, where they are references; else that of Object.
-fn element_of(types: &[TypeEntry], id: u16) -> u16
-    ensures { result ≡ element_in types.now id }
-{
-    if id < FIRST_OWN {
-        return 0;
-    }
-    match entry_of(types, id) {
-        Some(TypeEntry::RefArray { of }) => *of,
-        _ => 0,
-    }
-}
-
-/// Whether the id names an array type of at least so many dimensions.
-fn has_dimensions(types: &[TypeEntry], dimensions: u8, id: u16) -> bool
+/// Whether the id names an array type of at least so many dimensions. The table tells it; the types that
+/// it is made of are here for the contract alone.
+fn has_dimensions(types: &[TypeEntry], table: &[u8], dimensions: u8, id: u16) -> bool
+    requires { AreDimensions types.now table.now }
     ensures { result ≡ has_dimensions_of types.now dimensions id }
 {
-    let mut element = id;
-    for _ in 0..dimensions {
-        if !names_array(types, element) {
-            return false;
-        }
-        element = element_of(types, element);
-    }
-    true
+    let _ = types;
+    dimensions <= dimensions_in(table, id)
 }
 
 /// Whether the selector is there.
@@ -162,7 +142,8 @@ fn takes_receiver(called: Option<Sig>) -> bool
 }
 
 /// Whether what the instruction names is there.
-fn has_ids(image: &Image, method: &Method, insn: MInsn) -> bool
+fn has_ids(image: &Image, table: &[u8], method: &Method, insn: MInsn) -> bool
+    requires { AreDimensions image.now.types table.now }
     ensures { MatchBool result (HasIds image.now method.now insn) (¬ HasIds image.now method.now insn) }
 {
     let types = image.types.as_slice();
@@ -177,7 +158,7 @@ fn has_ids(image: &Image, method: &Method, insn: MInsn) -> bool
             has_static(image, kind, place)
         }
         MInsn::NewArr { id, .. } => names_array(types, id),
-        MInsn::Multi { id, dims } => 1 <= dims && has_dimensions(types, dims, id),
+        MInsn::Multi { id, dims } => 1 <= dims && has_dimensions(types, table, dims, id),
         MInsn::New { id } => names_concrete(types, id),
         MInsn::Cast { id } | MInsn::Inst { id } => names_type(types, id),
         MInsn::CallS { method } => signature_in(methods, method).is_some(),
@@ -189,14 +170,20 @@ fn has_ids(image: &Image, method: &Method, insn: MInsn) -> bool
     }
 }
 
-/// Tests that what each instruction names is there.
-pub(crate) fn test_ids(image: &Image, method: &Method, insns: &[(u16, MInsn)]) -> Result<(), Fault>
-    requires { CodeIs method.now.code insns.now }
+/// Tests that what each instruction names is there, by the table of the dimensions of the types.
+pub(crate) fn test_ids(
+    image: &Image,
+    table: &[u8],
+    method: &Method,
+    insns: &[(u16, MInsn)],
+) -> Result<(), Fault>
+    requires code { CodeIs method.now.code insns.now }
+    requires table { AreDimensions image.now.types table.now }
     ensures kept { OnOk result (AllByRecursion (λ x. HasIds image.now method.now x.1) insns.now) }
     ensures refused { IfErr result (λ fault. IsFault image.now method.now fault.cause fault.pc) }
 {
     for x in insns {
-        if !has_ids(image, method, x.1) {
+        if !has_ids(image, table, method, x.1) {
             return Err(Fault {
                 cause: CheckCause::BadId,
                 pc: x.0,

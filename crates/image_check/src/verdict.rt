@@ -8,17 +8,20 @@ ghost use Rattle.image_form.specs.Grammar.{IsImage};
 ghost use Rattle.image_check.specs.BuiltForm.{has_built_form};
 ghost use Rattle.image_check.specs.declared.refusal.CheckCause.TheVariants.{Memory, Unbuilt};
 ghost use Rattle.image_check.specs.Checked.{IsCheckedMethod, IsChecked, IsBuiltMethod, IsBuilt};
+ghost use Rattle.image_check.specs.Dimensions.{AreDimensions};
 ghost use Rattle.image_check.specs.Refused.{IsFault, IsUnbuiltAt, FailsThere, IsUnbuiltThere, IsRefused};
 
 use crate::built::first_unbuilt;
 use crate::built_form::has_built_form;
+use crate::dimensions::list_dimensions;
 use crate::flow::follow_depths;
-use crate::ids::{FIRST_OWN, test_ids};
+use crate::ids::test_ids;
 use crate::jumps::test_targets;
 use crate::listing::list_insns;
 use crate::names::type_name;
 use crate::refusal::{CheckCause, CheckRefusal, Fault};
 use image_form::{Image, Method};
+use library::FIRST_OWN;
 use std::alloc::Global;
 use std::marker::Model;
 
@@ -40,8 +43,10 @@ impl Model for Checked {
     ghost invariant = { λ checked. IsImage checked.image × IsChecked checked.image × IsBuilt checked.image };
 }
 
-/// Tests a method: its code, its targets, its ids and its depths.
-fn check_method(alloc: Global, image: &Image, method: &Method) -> Result<(), Fault>
+/// Tests a method: its code, its targets, its ids by the table of the dimensions of the types, and its
+/// depths.
+fn check_method(alloc: Global, image: &Image, table: &[u8], method: &Method) -> Result<(), Fault>
+    requires table { AreDimensions image.now.types table.now }
     requires some { 1 ≤ length method.now.code }
     requires small { length method.now.code ≤ 65535 }
     ensures checked { OnOk result (IsCheckedMethod image.now method.now) }
@@ -49,7 +54,7 @@ fn check_method(alloc: Global, image: &Image, method: &Method) -> Result<(), Fau
 {
     let insns = list_insns(alloc, method)?;
     test_targets(method, &insns)?;
-    test_ids(image, method, &insns)?;
+    test_ids(image, table, method, &insns)?;
     follow_depths(alloc, image, method)
 }
 
@@ -104,8 +109,12 @@ fn check_methods(alloc: Global, image: &Image) -> Result<(), CheckRefusal>
     ensures refused { IfErr result (λ refusal. (refusal.cause ≡ Memory) ⊎ FailsThere image.now refusal) }
     ensures memory { IfErr result (λ refusal. refusal.cause ≡ Memory → (refusal.method ≡ 0) × (refusal.pc ≡ 0)) }
 {
+    let table = match list_dimensions(alloc, image.types.as_slice()) {
+        Ok(table) => table,
+        Err(fault) => return Err(refusal_of(fault, 0)),
+    };
     for (index, method) in image.methods.as_slice().iter().enumerate() {
-        if let Err(fault) = check_method(alloc, image, method) {
+        if let Err(fault) = check_method(alloc, image, table.as_slice(), method) {
             return Err(refusal_of(fault, FIRST_OWN + index as u16));
         }
     }

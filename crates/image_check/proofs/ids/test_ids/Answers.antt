@@ -13,7 +13,7 @@ returns-then-not-has_ids-clause-refused c =
     inr (record {
       insns = insns;
       insn = x.1;
-      is_code = c.requires;
+      is_code = c.requires.code;
       stands = Contains-get_or insns c.loop-x.x-index nothing c.loop-x-test.true;
       is_not = no c.has_ids.result has (¬ has) c.if-not-has_ids.true c.has_ids.ensures;
     })
