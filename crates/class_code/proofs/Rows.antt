@@ -3,7 +3,7 @@ use Rattle.std.proofs.Common.{◌≡◌, ℕ, ℤ, pos, ◌+ℤ◌, suc, ◌-◌
 use Rattle.std.proofs.lemmas.List.{append-nil}
 use Rattle.class_code.specs.declared.refusal.Fault.{Fault}
 use Rattle.class_code.specs.declared.refusal.Fault.TheVariants.{Unsupported, BadCode, Memory}
-use Rattle.class_code.specs.declared.insn.SwitchRow.{SwitchRow}
+use Rattle.insn_form.specs.declared.SwitchRow.{SwitchRow}
 use Rattle.byte_read.specs.Reading.{◌>>=◌}
 use Rattle.class_code.specs.Operands.{Gives, far_target_at}
 use Rattle.class_code.specs.Table.{table_rows, lookup_row, lookup_rows}

@@ -11,14 +11,14 @@ use Rattle.cell_num.specs.declared.conditions.Cond.TheVariants as cond
 use Rattle.cell_num.specs.declared.conversions.Conv.TheVariants as conv
 use Rattle.class_code.specs.declared.refusal.Fault.{Fault}
 use Rattle.class_code.specs.declared.refusal.Fault.TheVariants.{Unsupported, BadCode}
-use Rattle.class_code.specs.declared.insn.ValueKind.TheVariants as value
-use Rattle.class_code.specs.declared.insn.StackForm.{StackForm}
-use Rattle.class_code.specs.declared.insn.StackForm.TheVariants as form
-use Rattle.class_code.specs.declared.insn.RefCond.{RefCond}
-use Rattle.class_code.specs.declared.insn.RefCond.TheVariants as ref
-use Rattle.class_code.specs.declared.insn.SwitchForm.TheVariants as switch
-use Rattle.class_code.specs.declared.insn.SwitchRow.{SwitchRow}
-use Rattle.class_code.specs.declared.insn.ElementKind.TheVariants as element
+use Rattle.insn_form.specs.declared.ValueKind.TheVariants as value
+use Rattle.insn_form.specs.declared.StackForm.{StackForm}
+use Rattle.insn_form.specs.declared.StackForm.TheVariants as form
+use Rattle.insn_form.specs.declared.RefCond.{RefCond}
+use Rattle.insn_form.specs.declared.RefCond.TheVariants as ref
+use Rattle.insn_form.specs.declared.SwitchForm.TheVariants as switch
+use Rattle.insn_form.specs.declared.SwitchRow.{SwitchRow}
+use Rattle.insn_form.specs.declared.ElementKind.TheVariants as element
 use Rattle.class_code.specs.declared.insn.ArrayKind.{ArrayKind}
 use Rattle.class_code.specs.declared.insn.ArrayKind.TheVariants as array
 use Rattle.class_code.specs.declared.insn.Insn.{Insn}

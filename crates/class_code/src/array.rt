@@ -4,9 +4,10 @@ ghost use Rattle.std.specs.Prelude.{◌≡◌};
 ghost use Rattle.class_code.specs.Operands.{Gives};
 ghost use Rattle.class_code.specs.Table.{array_load, array_store, array_kind, new_array};
 
-use crate::insn::{ArrayKind, ElementKind, Insn};
+use crate::insn::{ArrayKind, Insn};
 use crate::operand::u1_at;
 use crate::refusal::Fault;
+use insn_form::ElementKind;
 
 /// iaload, aaload, baload, caload, saload.
 #[tactic(auto, unfolding(crate::specs::Table::array_load))]

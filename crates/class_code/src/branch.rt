@@ -4,10 +4,11 @@ ghost use Rattle.std.specs.Prelude.{◌≡◌};
 ghost use Rattle.class_code.specs.Operands.{Gives};
 ghost use Rattle.class_code.specs.Table.{condition, ref_condition, jump, branch};
 
-use crate::insn::{Insn, RefCond};
+use crate::insn::Insn;
 use crate::operand::target_at;
 use crate::refusal::Fault;
 use cell_num::Cond;
+use insn_form::RefCond;
 
 /// The condition that stands so many opcodes after that of equality.
 #[tactic(auto, unfolding(crate::specs::Table::condition))]

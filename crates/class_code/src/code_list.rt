@@ -4,10 +4,11 @@ ghost use Rattle.class_code.specs.declared.refusal.CodeRefusal.{CodeRefusal};
 ghost use Rattle.class_code.specs.declared.refusal.CodeRefusal.TheVariants.{Memory};
 ghost use Rattle.class_code.specs.Code.{Insns, IsCode, IsRefused, RiseFrom, IsStart, HandlerFits, IsFirstUnfit, Answers, at_pc, insns_of, is_start as is_start_of, jumps_to_starts, first_astray, decoded, handler_fits, first_unfit};
 
-use crate::insn::{Insn, SwitchRow};
+use crate::insn::Insn;
 use crate::refusal::{CodeRefusal, Fault};
 use crate::table::insn_at;
 use class_file::HandlerRow;
+use insn_form::SwitchRow;
 use std::alloc::Global;
 use std::marker::Model;
 

@@ -4,10 +4,11 @@ ghost use Rattle.std.specs.Prelude.{◌≡◌};
 ghost use Rattle.class_code.specs.Operands.{Gives};
 ghost use Rattle.class_code.specs.Table.{control};
 
-use crate::insn::{Insn, ValueKind};
+use crate::insn::Insn;
 use crate::operand::target_at;
 use crate::refusal::Fault;
 use crate::switch::{lookupswitch, tableswitch};
+use insn_form::ValueKind;
 use std::alloc::Global;
 
 /// goto, the switches and the returns.

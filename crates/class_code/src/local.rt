@@ -4,9 +4,10 @@ ghost use Rattle.std.specs.Prelude.{◌≤◌};
 ghost use Rattle.class_code.specs.Operands.{Gives};
 ghost use Rattle.class_code.specs.Table.{load, store};
 
-use crate::insn::{Insn, ValueKind};
+use crate::insn::Insn;
 use crate::operand::u1_at;
 use crate::refusal::Fault;
+use insn_form::ValueKind;
 
 /// iload and aload in all forms but that after wide.
 #[tactic(auto, unfolding(crate::specs::Table::load))]

@@ -3,7 +3,7 @@
 ghost use Rattle.std.specs.Prelude.{◌≡◌};
 ghost use Rattle.class_code.specs.Table.{stack_form};
 
-use crate::insn::StackForm;
+use insn_form::StackForm;
 
 /// pop to swap, 87 to 95.
 #[tactic(auto, unfolding(crate::specs::Table::stack_form))]

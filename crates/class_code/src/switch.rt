@@ -4,9 +4,10 @@ ghost use Rattle.std.specs.Prelude.{◌≡◌, ◌≤◌, ◌+ℤ◌, ◌<ℤ◌
 ghost use Rattle.class_code.specs.Operands.{Gives};
 ghost use Rattle.class_code.specs.Table.{are_zero, padding_at, table_rows, span, tableswitch, is_above, lookup_row, lookup_rows, lookupswitch};
 
-use crate::insn::{Insn, SwitchForm, SwitchRow};
+use crate::insn::Insn;
 use crate::operand::{far_target_at, i4_at, slice_at};
 use crate::refusal::Fault;
+use insn_form::{SwitchForm, SwitchRow};
 use item_list::Items;
 use std::alloc::Global;
 

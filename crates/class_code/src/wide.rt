@@ -5,10 +5,11 @@ ghost use Rattle.class_code.specs.Operands.{Gives};
 ghost use Rattle.class_code.specs.Table.{wide_increment, widened, wide, goto_w, extended};
 
 use crate::branch::branch;
-use crate::insn::{Insn, ValueKind};
+use crate::insn::Insn;
 use crate::operand::{far_target_at, i2_at, u1_at, u2_at};
 use crate::reference::multi_array;
 use crate::refusal::Fault;
+use insn_form::ValueKind;
 
 /// iinc after wide.
 #[tactic(auto, unfolding(crate::specs::Table::wide_increment))]

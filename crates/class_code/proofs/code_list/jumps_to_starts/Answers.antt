@@ -1,7 +1,7 @@
 use Rattle.std.proofs.Common.{◌&&◌, map, sym, ap, ◌∙◌}
 use Rattle.std.specs.List.{list_all}
 use Rattle.std.proofs.lemmas.List.Folds.{list_all-map}
-use Rattle.class_code.specs.declared.insn.SwitchRow.{SwitchRow}
+use Rattle.insn_form.specs.declared.SwitchRow.{SwitchRow}
 use Rattle.class_code.specs.Code.{is_start, jumps_to_starts}
 use Rattle.class_code.proofs.code_list.jumps_to_starts.Goals as goal
 

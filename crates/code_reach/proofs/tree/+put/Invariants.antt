@@ -1,0 +1,4 @@
+use Rattle.code_reach.proofs.tree.+put.Given as goal
+
+abbrev pub decreases-put : goal.decreases-put
+decreases-put l = l.to

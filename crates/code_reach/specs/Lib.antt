@@ -1,0 +1,3 @@
+pub mod Reached
+pub mod Visits
+pub mod Tree
