@@ -14,29 +14,53 @@ use Rattle.class_file.specs.declared.record.HandlerRow.{HandlerRow}
 abbrev pub has_flag : ℕ → ℕ → Bool
 has_flag flag flags = flags / flag % 2 == 1
 
+abbrev pub acc_public : ℕ
+acc_public = 1
+
+abbrev pub acc_private : ℕ
+acc_private = 2
+
+abbrev pub acc_protected : ℕ
+acc_protected = 4
+
+abbrev pub acc_static : ℕ
+acc_static = 8
+
+abbrev pub acc_final : ℕ
+acc_final = 16
+
+abbrev pub acc_native : ℕ
+acc_native = 256
+
+abbrev pub acc_interface : ℕ
+acc_interface = 512
+
+abbrev pub acc_abstract : ℕ
+acc_abstract = 1024
+
 abbrev pub is_public : ℕ → Bool
-is_public flags = has_flag 1 flags
+is_public flags = has_flag acc_public flags
 
 abbrev pub is_private : ℕ → Bool
-is_private flags = has_flag 2 flags
+is_private flags = has_flag acc_private flags
 
 abbrev pub is_protected : ℕ → Bool
-is_protected flags = has_flag 4 flags
+is_protected flags = has_flag acc_protected flags
 
 abbrev pub is_static : ℕ → Bool
-is_static flags = has_flag 8 flags
+is_static flags = has_flag acc_static flags
 
 abbrev pub is_final : ℕ → Bool
-is_final flags = has_flag 16 flags
+is_final flags = has_flag acc_final flags
 
 abbrev pub is_native : ℕ → Bool
-is_native flags = has_flag 256 flags
+is_native flags = has_flag acc_native flags
 
 abbrev pub is_interface : ℕ → Bool
-is_interface flags = has_flag 512 flags
+is_interface flags = has_flag acc_interface flags
 
 abbrev pub is_abstract : ℕ → Bool
-is_abstract flags = has_flag 1024 flags
+is_abstract flags = has_flag acc_abstract flags
 
 -- ---- the class (JVMS 4.1)
 

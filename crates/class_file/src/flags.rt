@@ -3,60 +3,76 @@
 ghost use Rattle.std.specs.Prelude.{◌≡◌};
 ghost use Rattle.class_file.specs.Rules.{is_public, is_private, is_protected, is_static, is_final, is_native, is_interface, is_abstract, are_class_flags, has_one_access, fits_interface_field};
 
+const ACC_PUBLIC: u16 = 0x0001;
+
+const ACC_PRIVATE: u16 = 0x0002;
+
+const ACC_PROTECTED: u16 = 0x0004;
+
+const ACC_STATIC: u16 = 0x0008;
+
+const ACC_FINAL: u16 = 0x0010;
+
+const ACC_NATIVE: u16 = 0x0100;
+
+const ACC_INTERFACE: u16 = 0x0200;
+
+const ACC_ABSTRACT: u16 = 0x0400;
+
 /// The flags have ACC_PUBLIC.
-pub(crate) fn is_public(flags: u16) -> bool
+pub fn is_public(flags: u16) -> bool
     ensures { result ≡ is_public flags }
 {
-    flags & 0x0001 != 0
+    flags & ACC_PUBLIC != 0
 }
 
 /// The flags have ACC_PRIVATE.
-pub(crate) fn is_private(flags: u16) -> bool
+pub fn is_private(flags: u16) -> bool
     ensures { result ≡ is_private flags }
 {
-    flags & 0x0002 != 0
+    flags & ACC_PRIVATE != 0
 }
 
 /// The flags have ACC_PROTECTED.
-pub(crate) fn is_protected(flags: u16) -> bool
+pub fn is_protected(flags: u16) -> bool
     ensures { result ≡ is_protected flags }
 {
-    flags & 0x0004 != 0
+    flags & ACC_PROTECTED != 0
 }
 
 /// The flags have ACC_STATIC.
-pub(crate) fn is_static(flags: u16) -> bool
+pub fn is_static(flags: u16) -> bool
     ensures { result ≡ is_static flags }
 {
-    flags & 0x0008 != 0
+    flags & ACC_STATIC != 0
 }
 
 /// The flags have ACC_FINAL.
-pub(crate) fn is_final(flags: u16) -> bool
+pub fn is_final(flags: u16) -> bool
     ensures { result ≡ is_final flags }
 {
-    flags & 0x0010 != 0
+    flags & ACC_FINAL != 0
 }
 
 /// The flags have ACC_NATIVE.
 pub(crate) fn is_native(flags: u16) -> bool
     ensures { result ≡ is_native flags }
 {
-    flags & 0x0100 != 0
+    flags & ACC_NATIVE != 0
 }
 
 /// The flags have ACC_INTERFACE.
-pub(crate) fn is_interface(flags: u16) -> bool
+pub fn is_interface(flags: u16) -> bool
     ensures { result ≡ is_interface flags }
 {
-    flags & 0x0200 != 0
+    flags & ACC_INTERFACE != 0
 }
 
 /// The flags have ACC_ABSTRACT.
-pub(crate) fn is_abstract(flags: u16) -> bool
+pub fn is_abstract(flags: u16) -> bool
     ensures { result ≡ is_abstract flags }
 {
-    flags & 0x0400 != 0
+    flags & ACC_ABSTRACT != 0
 }
 
 /// An interface is abstract, and a final class is not (JVMS 4.1).

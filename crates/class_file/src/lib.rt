@@ -24,6 +24,9 @@ mod rules;
 mod seen;
 mod texts;
 
+pub use flags::{
+    is_abstract, is_final, is_interface, is_private, is_protected, is_public, is_static,
+};
 pub use laws::prefixes_decide;
 pub use one_main::is_one_main;
 pub use read::read_class;

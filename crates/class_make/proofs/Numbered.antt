@@ -1,10 +1,11 @@
 -- Constants with the indexes of their places: what a look-up finds, and what stays numbered.
 use Rattle.std.proofs.Common.{◌≡◌, ℕ, zero, suc, ◌+◌, ◌-◌, ◌≤◌, Bool, true, false, cond, List, [], ◌∷◌, ◌++◌, length, take, Option, Some, None, slice_get, refl, sym, ap, ◌∙◌, arith, inl, inr, length-append, append_assoc}
+use Rattle.std.specs.Prelude.{if◌then◌else◌}
 use Rattle.std.specs.Map.{keys_of, lookup}
 use Rattle.std.proofs.lemmas.Bool.{cases_Bool, false≢true}
 use Rattle.std.proofs.lemmas.List.{append-nil, take-map}
 use Rattle.class_pool.specs.declared.pool.Const.{Const}
-use Rattle.class_pool.specs.Pool.{Slots, is_wide, width}
+use Rattle.class_pool.specs.Pool.{Slots, AreSpaced, AreSpacedAfter, is_wide, width}
 use Rattle.class_make.specs.Entries.{is_same, index_from, index_of, slots_of}
 use Rattle.class_make.specs.Numbered.{slots_of_all, AreNumbered, IsNumbered, AreOf}
 use Rattle.class_make.proofs.Equality.{const_eq, eq_is_same}
@@ -23,6 +24,16 @@ slots_count constant =
       | inl t ↦ rw t refl
       | inr f ↦ rw f refl
     ]
+
+-- the second place of a constant, where it has one, and other places after it
+spaced_after : (wide : Bool) (slots : Slots) → AreSpaced slots → AreSpacedAfter wide ((if wide then None ∷ [] else []) ++ slots)
+spaced_after true slots spaced = spaced
+spaced_after false slots spaced = spaced
+
+-- the places of constants are spaced
+pub spaced_all : (constants : List Const) → AreSpaced (slots_of_all constants)
+spaced_all [] = tt
+spaced_all (constant ∷ constants) = spaced_after (is_wide constant) (slots_of_all constants) (spaced_all constants)
 
 size_more : (entry : Const × ℕ) (entries : List (Const × ℕ)) → size (entry ∷ entries) ≡ width entry.0 + size entries
 size_more entry entries = length-append (slots_of entry.0) (slots_at entries) ∙ ap (λ (n : ℕ). n + size entries) (slots_count entry.0)

@@ -2,7 +2,7 @@
 
 ghost use Rattle.std.specs.Prelude.{◌≡◌, ◌+◌, ◌≤◌, [], ◌++◌, None, Some, Err, length, take, IsSome, IfOk, IfErr, OnOk, OnErr};
 ghost use Rattle.class_pool.specs.declared.pool.Const.TheVariants.{Utf8, Class};
-ghost use Rattle.class_pool.specs.Pool.{Slots, width};
+ghost use Rattle.class_pool.specs.Pool.{Slots, AreSpaced, width};
 ghost use Rattle.class_make.specs.declared.refusal.DraftRefusal.TheVariants.{Full};
 ghost use Rattle.class_make.specs.Entries.{index_of, text_index, slots_of, with_entry, with_text, with_class};
 ghost use Rattle.class_make.specs.Numbered.{AreOf};
@@ -189,6 +189,7 @@ impl Constants {
     pub(crate) fn into_slots(self, alloc: Global) -> Result<Vec<Option<Const>>, AllocError>
         ensures slots { IfOk result (λ slots. slots.items ≡ self) }
         ensures within { IfOk result (λ slots. length slots.items ≤ 65534) }
+        ensures spaced { IfOk result (λ slots. AreSpaced slots.items) }
     {
         let Constants { indexes, taken: _ } = self;
         let mut slots = Vec::new(alloc);

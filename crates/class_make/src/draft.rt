@@ -17,6 +17,11 @@ use item_list::Items;
 use std::alloc::{AllocError, Global};
 use std::marker::Model;
 
+/// The flags of a drafted class (JVMS table 4.1-A).
+const ACC_PUBLIC: u16 = 0x0001;
+
+const ACC_SUPER: u16 = 0x0020;
+
 /// A class in the making: version 52.0, public, without interfaces. Contracts see the record that was
 /// drafted so far. Its constants stand in the order in which they were first seen, each once.
 #[derive(Debug, Drop)]
@@ -235,7 +240,7 @@ impl ClassDraft {
             minor: 0,
             major: 52,
             pool: Pool::from_slots(slots),
-            flags: 0x0021,
+            flags: ACC_PUBLIC | ACC_SUPER,
             this_class,
             super_class,
             interfaces: Items::empty(alloc),

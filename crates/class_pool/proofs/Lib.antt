@@ -13,3 +13,4 @@ pub mod ClassNames
 pub mod FieldTypes
 pub mod Parameters
 pub mod Calls
+pub mod Spacing

@@ -1,5 +1,5 @@
 -- The constant pool (JVMS 4.4): its places from index 1 on, None at the second place of a long or a double.
-use Rattle.std.specs.Prelude.{◌≡◌, ℕ, ℤ, FitsSigned, zero, suc, ◌+◌, ◌^◌, ◌<◌, Bool, true, false, IsTrue, ◌&&◌, if◌then◌else◌, nat_le, drop, List, [], ◌∷◌, ◌++◌, length, Option, Some, None, option_and_then, is_some, slice_get}
+use Rattle.std.specs.Prelude.{◌≡◌, ◌⊎◌, ℕ, ℤ, FitsSigned, zero, suc, ◌+◌, ◌^◌, ◌<◌, ◌≤◌, Bool, true, false, IsTrue, ◌&&◌, if◌then◌else◌, nat_le, drop, List, [], ◌∷◌, ◌++◌, length, Option, Some, None, option_and_then, is_some, slice_get}
 use Rattle.std.specs.List.{flat_map}
 use Rattle.std.specs.Int.{w32, cast_unsigned}
 use Rattle.byteorder.specs.Endian.{big_bytes}
@@ -143,6 +143,20 @@ AreSpacedAfter true (Some entry ∷ slots) = ⊥
 -- each place without an entry is the second of a long or a double, and no other is
 abbrev pub AreSpaced : Slots → Type 0
 AreSpaced slots = AreSpacedAfter false slots
+
+-- places as a pool keeps them
+pub record AreKept (slots : Slots) : Type 0 where
+  pub count : length slots < 65535
+  pub spaced : AreSpaced slots
+
+-- the index after that of a long or a double
+abbrev pub IsSecond : Slots → ℕ → Type 0
+IsSecond slots zero = ⊥
+IsSecond slots (suc index) = (entry : Const) × (entry_at slots index ≡ Some entry) × (is_wide entry ≡ true)
+
+-- an index that has no entry: it is 0, or is not below the count, or is the second of a long or a double
+abbrev pub LacksEntry : Slots → ℕ → Type 0
+LacksEntry slots index = (index ≡ 0) ⊎ ((length slots + 1 ≤ index) ⊎ IsSecond slots index)
 
 -- the fact of each entry
 abbrev pub EachEntry : (Const → Type 0) → Slots → Type 0

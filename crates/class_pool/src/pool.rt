@@ -1,5 +1,6 @@
-ghost use Rattle.std.specs.Prelude.{◌≡◌, ◌+◌, ◌<◌, length};
+ghost use Rattle.std.specs.Prelude.{◌≡◌, ◌↔◌, ◌+◌, ◌<◌, None, length};
 ghost use Rattle.std.specs.Option.{option_copied};
+ghost use Rattle.class_pool.specs.Pool.{entry_at as entry_at_index};
 
 use item_list::Items;
 use std::marker::Model;
@@ -34,22 +35,35 @@ pub struct Pool {
 }
 
 impl Model for Pool {
-    ghost use Rattle.std.specs.Prelude.{◌<◌, List, Option, length};
+    ghost use Rattle.std.specs.Prelude.{List, Option};
     ghost use Rattle.class_pool.specs.declared.pool.Const.{Const};
+    ghost use Rattle.class_pool.specs.Pool.{AreKept};
 
     ghost Value = { List (Option Const) };
 
     ghost view = { λ pool. pool.slots.items };
 
-    ghost invariant = { λ pool. length pool.slots.items < 65535 };
+    ghost invariant = { λ pool. AreKept pool.slots.items };
+}
+
+/// The entry at an index of these places, where there is one.
+fn entry_in(slots: &[Option<Const>], index: u16) -> Option<&Const>
+    ensures { option_copied result ≡ entry_at_index slots.now index }
+{
+    if index == 0 {
+        return None;
+    }
+    slots.get(usize::from(index - 1))?.as_ref()
 }
 
 impl Pool {
-    ghost use Rattle.class_pool.specs.Pool.{entry_at, utf8_at, class_name_at, integer_at};
+    ghost use Rattle.class_pool.specs.Pool.{entry_at, utf8_at, class_name_at, integer_at, AreSpaced, LacksEntry};
 
-    /// The pool with these places, that of index 1 first.
+    /// The pool with these places, that of index 1 first. A place without an entry is the second one of a long
+    /// or a double.
     pub fn from_slots(slots: Vec<Option<Const>>) -> Pool
-        requires { length slots.items < 65535 }
+        requires count { length slots.items < 65535 }
+        requires spaced { AreSpaced slots.items }
         ensures { result ≡ slots.items }
     {
         Pool { slots }
@@ -58,12 +72,10 @@ impl Pool {
     /// The entry at an index. There is none at 0, from the count on, and at the second place of a
     /// long or a double.
     pub fn get(&self, index: u16) -> Option<&Const>
-        ensures { option_copied result ≡ entry_at self.now index }
+        ensures entry { option_copied result ≡ entry_at self.now index }
+        ensures none { (result ≡ None) ↔ LacksEntry self.now index }
     {
-        if index == 0 {
-            return None;
-        }
-        self.slots.get(usize::from(index - 1))?.as_ref()
+        entry_in(self.slots.as_slice(), index)
     }
 
     /// The bytes of the text at an index (JVMS 4.4.7), where there is one.
