@@ -1,5 +1,5 @@
 -- Finding an item of a list, seen by a view.
-use Rattle.std.proofs.Common.{◌≡◌, ℕ, ◌+◌, Bool, not, ◌||◌, cond, nat_lt, List, [], ◌∷◌, map, length, Option, Some, None, position, refl, sym, ◌∙◌, ap}
+use Rattle.std.proofs.Common.{◌≡◌, ◌+◌, Bool, not, ◌||◌, cond, nat_lt, List, [], ◌∷◌, map, length, Some, None, position, refl, ◌∙◌, ap}
 use Rattle.std.specs.List.{position_or_len, list_any}
 use Rattle.std.proofs.lemmas.List.{length-map}
 
@@ -7,7 +7,7 @@ module _ {X Y : Type 0} (view : X → Y) (p : Y → Bool) where
   abbrev seen : X → Bool
   seen x = p (view x)
 
-  first_map : (xs : List X) → position_or_len p (map view xs) ≡ position_or_len seen xs
+  pub first_map : (xs : List X) → position_or_len p (map view xs) ≡ position_or_len seen xs
   first_map [] = refl
   first_map (x ∷ xs) = ap (λ n. cond (not (seen x)) (1 + n) 0) (first_map xs)
 

@@ -1,6 +1,6 @@
 -- The table of what leads where over all numbers is that of what leads where.
-use Rattle.std.proofs.Common.{◌≡◌, ℕ, zero, suc, ◌+◌, ◌<◌, Bool, true, false, ◌||◌, ◌&&◌, ◌⊎◌, inl, inr, refl, sym, ◌∙◌, ap, subst, arith, add-one, length, get_or, [], ◌↔◌}
-use Rattle.class_tree.specs.Closure.{Edges, StaysBelow, Leads, AtOnce, Over, Rows, at, IsSquare, IsClosure, leads_over, AreOver, IsStep, IsRound}
+use Rattle.std.proofs.Common.{◌≡◌, ℕ, zero, suc, ◌+◌, ◌<◌, Bool, true, false, ◌||◌, ◌&&◌, ◌⊎◌, inl, inr, refl, sym, ◌∙◌, ap, subst, arith, add-one}
+use Rattle.class_tree.specs.Closure.{Edges, StaysBelow, Leads, AtOnce, Over, Rows, at, IsSquare, IsClosure, leads_over, AreOver, IsRound}
 use Rattle.std.proofs.lemmas.Bool.{cases_lt}
 
 -- ---- truth values
@@ -9,23 +9,23 @@ pub or_cases : (a b : Bool) → (a || b) ≡ true → (a ≡ true) ⊎ (b ≡ tr
 or_cases true b e = inl refl
 or_cases false b e = inr e
 
-or_left : (a b : Bool) → a ≡ true → (a || b) ≡ true
+pub or_left : (a b : Bool) → a ≡ true → (a || b) ≡ true
 or_left a b e = ap (λ x. x || b) e
 
-or_right : (a b : Bool) → b ≡ true → (a || b) ≡ true
+pub or_right : (a b : Bool) → b ≡ true → (a || b) ≡ true
 or_right true b e = refl
 or_right false b e = e
 
-and_both : (a b : Bool) → a ≡ true → b ≡ true → (a && b) ≡ true
+pub and_both : (a b : Bool) → a ≡ true → b ≡ true → (a && b) ≡ true
 and_both a b e f = ap (λ x. x && b) e ∙ f
 
-and_cases : (a b : Bool) → (a && b) ≡ true → (a ≡ true) × (b ≡ true)
+pub and_cases : (a b : Bool) → (a && b) ≡ true → (a ≡ true) × (b ≡ true)
 and_cases true b e = (refl, e)
 and_cases false b e = cc
 
 -- ---- numbers
 
-below : (k n : ℕ) → n < suc k → (n < k) ⊎ (n ≡ k)
+pub below : (k n : ℕ) → n < suc k → (n < k) ⊎ (n ≡ k)
 below k n lt = elim (cases_lt n k) [ inl fewer ↦ inl fewer | inr more ↦ inr (omega (arith, lt, more)) ]
 
 -- ---- what leads where
@@ -71,7 +71,7 @@ module _ (edge : Edges) where
   follows from by to (Over m e p) q = Over m e (follows m by to p q)
 
   -- a way over some numbers is a way
-  sound : (k from to : ℕ) → over k from to → Leads edge from to
+  pub sound : (k from to : ℕ) → over k from to → Leads edge from to
   sound zero from to e = AtOnce (sym (over_zero from to) ∙ e)
   sound (suc k) from to e =
       elim (splits k from to e) [
@@ -118,7 +118,7 @@ module _ (edge : Edges) where
       ]
 
   -- a way is one over all numbers, where all that is led to is among them
-  complete : (count from to : ℕ) → StaysBelow count edge → Leads edge from to → over count from to
+  pub complete : (count from to : ℕ) → StaysBelow count edge → Leads edge from to → over count from to
   complete count from to stays (AtOnce e) = from_zero count from to e
   complete count from to stays (Over by e p) =
       through count from by to (stays from by e) (from_zero count from by e) (complete count by to stays p)

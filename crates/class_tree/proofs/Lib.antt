@@ -9,3 +9,25 @@ mod Tables
 mod Faults
 mod NamesOf
 mod Subtyping
+mod Counting
+mod Climbing
+mod Acyclic
+mod SupersAbove
+mod LookupRules
+mod Forest
+mod Superclasses
+mod CommonSuper
+mod RefParts
+mod Merging
+mod MergeLaws
+mod Seen
+mod WayTables
+mod SameWays
+mod RouteWays
+mod Associating
+mod SubtypeFits
+pub mod FoundMembers
+pub mod OneAnswer
+pub mod TestedAccess
+mod MemberKeys
+mod IndexLists

@@ -1,11 +1,11 @@
 -- The subtypes of a type, by dimensions and bases.
-use Rattle.std.proofs.Common.{◌≡◌, ℕ, zero, suc, ◌+◌, ◌-◌, ◌<◌, ◌≤◌, ◌⊎◌, Bool, true, false, inl, inr, List, map, refl, sym, ap, subst, ◌∙◌, arith, add-one}
+use Rattle.std.proofs.Common.{◌≡◌, ℕ, zero, suc, ◌+◌, ◌-◌, ◌≤◌, inl, inr, List, refl, sym, ap, subst, ◌∙◌, arith, add-one}
 use Rattle.class_pool.specs.declared.types.TypeRef.{TypeRef}
 use Rattle.class_pool.specs.declared.types.TypeBase.{TypeBase}
 use Rattle.class_pool.specs.declared.types.TypeBase.TheVariants.{Class, Byte, Char, Short, Int, Boolean}
 use Rattle.class_file.specs.declared.record.ClassFile.{ClassFile}
 use Rattle.class_tree.specs.Closure.{Leads, AtOnce, Over as ByWay}
-use Rattle.class_tree.specs.Subtypes.{directly_below, IsSubclass, array_of, class_type, IsReference, IsSubtype, Same, Over, Super, Array, Component, IsBelow, IsBaseBelow}
+use Rattle.class_tree.specs.Subtypes.{directly_below, IsSubclass, array_of, class_type, IsSubtype, Same, Over, Super, Array, Component, IsBelow, IsBaseBelow}
 use Rattle.class_tree.proofs.Leading.{follows}
 
 module _ (files : List ClassFile) where

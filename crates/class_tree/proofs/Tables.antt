@@ -1,12 +1,12 @@
 -- The table of what stands directly above what, row by row.
-use Rattle.std.proofs.Common.{◌≡◌, ℕ, ◌+◌, ◌-◌, ◌<◌, ◌≤◌, Bool, false, nat_lt, cond, List, [], ◌∷◌, ◌++◌, length, get_or, slice_get, Option, Some, Vec, Global, inl, inr, sym, ◌∙◌, ap, subst, arith}
+use Rattle.std.proofs.Common.{◌≡◌, ℕ, ◌+◌, ◌-◌, ◌<◌, ◌≤◌, Bool, false, cond, List, [], ◌∷◌, ◌++◌, length, get_or, slice_get, Option, Some, Vec, Global, inl, inr, sym, ◌∙◌, ap, subst, arith}
 use Rattle.std.specs.Option.{option_map_or}
 use Rattle.std.proofs.lemmas.Bool.{le-ltb, cases_lt}
 use Rattle.std.proofs.lemmas.List.{length-map}
 use Rattle.library.specs.Classes.{first_own}
 use Rattle.class_file.specs.declared.record.ClassFile.{ClassFile}
 use Rattle.class_tree.specs.Set.{is_number, library_superclass, names_super, is_directly_below}
-use Rattle.class_tree.specs.Closure.{Edges, IsSquare, AreOver, IsRowOf}
+use Rattle.class_tree.specs.Closure.{Edges, AreOver, IsRowOf}
 use Rattle.class_tree.proofs.Rows.{lists, row_pushed, row_earlier}
 use Rattle.class_tree.proofs.Leading.{over_zero}
 

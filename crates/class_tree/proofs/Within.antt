@@ -1,5 +1,5 @@
 -- The numbers of classes stay below those of the library and of the files.
-use Rattle.std.proofs.Common.{◌≡◌, ℕ, zero, suc, ◌+◌, ◌-◌, ◌<◌, ◌≤◌, Bool, true, false, ◌||◌, nat_lt, nat_eq, cond, inl, inr, List, [], ◌∷◌, length, map, slice_get, Option, Some, None, option_map, option_and_then, position, refl, sym, ap, subst, ◌∙◌, arith, unwrap_or}
+use Rattle.std.proofs.Common.{◌≡◌, ℕ, zero, suc, ◌+◌, ◌-◌, ◌<◌, Bool, true, false, nat_lt, cond, inl, inr, List, [], ◌∷◌, length, slice_get, Option, Some, None, option_map, option_and_then, position, refl, sym, ap, subst, arith, unwrap_or}
 use Rattle.std.specs.Option.{option_or, option_map_or}
 use Rattle.std.specs.List.{list_any, AllByRecursion}
 use Rattle.std.specs.Str.{bytes_eq}
@@ -11,7 +11,7 @@ use Rattle.class_file.specs.declared.record.ClassFile.{ClassFile}
 use Rattle.class_tree.specs.Set.{number_among, named_among, is_number, library_superclass, names_super, is_directly_below}
 use Rattle.class_tree.proofs.Leading.{or_cases}
 
-same_some : (m n : ℕ) → Some m ≡ Some n → m ≡ n
+pub same_some : (m n : ℕ) → Some m ≡ Some n → m ≡ n
 same_some m n e = ap (λ o. unwrap_or o 0) e
 
 -- ---- numbers of names
@@ -37,7 +37,7 @@ named_in names (Some name) n e = among_within names name n e
 
 -- ---- what stands directly above
 
-is_number_same : (number : ℕ) (found : Option ℕ) → is_number number found ≡ true → found ≡ Some number
+pub is_number_same : (number : ℕ) (found : Option ℕ) → is_number number found ≡ true → found ≡ Some number
 is_number_same number None e = cc
 is_number_same number (Some other) e = ap Some (sym (eqb-true number other e))
 

@@ -1,5 +1,5 @@
 -- Which numbers a number leads to, in one or more steps, and the table that says so.
-use Rattle.std.specs.Prelude.{◌≡◌, ℕ, zero, suc, ◌+◌, ◌<◌, Bool, false, true, ◌||◌, ◌&&◌, List, [], length, get_or, ◌↔◌}
+use Rattle.std.specs.Prelude.{◌≡◌, ℕ, zero, suc, ◌<◌, Bool, false, true, ◌||◌, ◌&&◌, List, [], length, get_or, ◌↔◌}
 
 -- one number leads to another at once
 abbrev pub Edges : Type 0

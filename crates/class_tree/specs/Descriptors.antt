@@ -1,6 +1,6 @@
 -- What the declared descriptors of fields and methods name (JVMS 4.3).
-use Rattle.std.specs.Prelude.{ℕ, Bool, true, false, ◌||◌, if◌then◌else◌, List, [], ◌∷◌, ◌++◌, map, Option, Some, None, is_none, option_map, option_and_then, slice_get}
-use Rattle.std.specs.Option.{option_or, option_map_or, option_to_list}
+use Rattle.std.specs.Prelude.{ℕ, Bool, true, false, if◌then◌else◌, List, [], ◌∷◌, ◌++◌, Option, Some, None, is_none, option_map, option_and_then, slice_get}
+use Rattle.std.specs.Option.{option_or, option_to_list}
 use Rattle.std.specs.List.{list_any}
 use Rattle.class_pool.specs.declared.descriptor.Base.{Base}
 use Rattle.class_pool.specs.declared.descriptor.Base.TheVariants.{Long, Float, Double, Class}

@@ -1,9 +1,9 @@
 -- Which types are below which (JVMS 4.10.1.2, by the rules of the profile): the least relation that holds
 -- from each type to itself, and goes up step by step.
-use Rattle.std.specs.Prelude.{◌≡◌, ℕ, ◌+◌, ◌<◌, ◌≤◌, ◌⊎◌, Bool, true, List, map}
+use Rattle.std.specs.Prelude.{◌≡◌, ℕ, ◌+◌, ◌<◌, ◌≤◌, ◌⊎◌, true, List, map}
 use Rattle.class_pool.specs.declared.types.TypeRef.{TypeRef}
 use Rattle.class_pool.specs.declared.types.TypeBase.{TypeBase}
-use Rattle.class_pool.specs.declared.types.TypeBase.TheVariants.{Class, Byte, Char, Short, Int, Boolean}
+use Rattle.class_pool.specs.declared.types.TypeBase.TheVariants.{Class}
 use Rattle.class_file.specs.declared.record.ClassFile.{ClassFile}
 use Rattle.class_tree.specs.Closure.{Edges, Leads}
 use Rattle.class_tree.specs.Set.{own_name, is_directly_below, IsClass}

@@ -1,12 +1,12 @@
 -- Which classes may stand directly above which.
-use Rattle.std.specs.Prelude.{ℕ, Bool, true, ◌&&◌, ◌||◌, not, ◌==◌, if◌then◌else◌, List, map, Option, Some, None, is_none}
+use Rattle.std.specs.Prelude.{ℕ, Bool, true, ◌&&◌, ◌||◌, not, ◌==◌, if◌then◌else◌, List, Option, Some, None, is_none}
 use Rattle.std.specs.List.{list_any}
 use Rattle.class_file.specs.declared.record.ClassFile.{ClassFile}
 use Rattle.class_file.specs.Rules.{is_interface, is_final}
 use Rattle.class_tree.specs.declared.refusal.TreeRefusal.{TreeRefusal}
 use Rattle.class_tree.specs.declared.refusal.TreeRefusal.TheVariants.{MissingClass, BadSuper}
 use Rattle.class_tree.specs.Scan.{first_refusal}
-use Rattle.class_tree.specs.Set.{own_name, named_among, flags_of}
+use Rattle.class_tree.specs.Set.{named_among, flags_of}
 
 -- the superclass or a superinterface is absent
 abbrev pub lacks_super : List (List ℕ) → ClassFile → Bool

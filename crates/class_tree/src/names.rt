@@ -1,7 +1,7 @@
 //! The names of the classes of a set, in the order of their files, each once.
 
-ghost use Rattle.std.specs.Prelude.{◌≡◌, ◌⊎◌, ◌≤◌, false, [], ◌∷◌, ◌++◌, None, Some, map, length, ◌<◌, ◌+◌, IfSome, IfOk, IfErr, OnOk, OnErr};
-ghost use Rattle.std.specs.List.{list_any};
+ghost use Rattle.std.specs.Prelude.{◌≡◌, ◌⊎◌, ◌≤◌, false, [], ◌∷◌, ◌++◌, None, Some, map, length, ◌<◌, ◌+◌, IfSome, IfOk, IfErr, OnOk, OnErr, if◌then◌else◌};
+ghost use Rattle.std.specs.List.{list_any, position_or_len};
 ghost use Rattle.std.specs.Str.{bytes_eq};
 ghost use Rattle.class_tree.specs.declared.refusal.TreeRefusal.TheVariants.{Memory};
 ghost use Rattle.class_tree.specs.Set.{own_name as own_name_of, number_among as number_among_names};
@@ -31,7 +31,7 @@ impl Model for Names {
 
 impl Names {
     /// No names; takes no memory.
-    fn new(alloc: Global) -> Names
+    pub(crate) fn new(alloc: Global) -> Names
         ensures { result ≡ [] }
     {
         Names {
@@ -55,6 +55,27 @@ impl Names {
         let name = Vec::from_slice(alloc, name)?;
         self.set.insert(name)?;
         Ok(())
+    }
+
+    /// Adds a name after the others, where it is not there.
+    pub(crate) fn add(&mut self, alloc: Global, name: &[u8]) -> Result<(), AllocError>
+        ensures { OnOk result (self.new ≡ (if list_any (bytes_eq name.now) self.old then self.old else self.old ++ name.now ∷ [])) }
+    {
+        if self.has(name) {
+            return Ok(());
+        }
+        self.push(alloc, name)
+    }
+
+    /// The position of a name, or how many names there are.
+    #[tactic(auto, using(crate::proofs::Finding::position_map))]
+    pub(crate) fn position_of(&self, name: &[u8]) -> usize
+        ensures { result ≡ position_or_len (bytes_eq name.now) self.now }
+    {
+        match self.set.get_index_of(name) {
+            Some(position) => position,
+            None => self.set.len(),
+        }
     }
 
     /// How many names there are.

@@ -2,31 +2,16 @@
 
 ghost use Rattle.std.specs.Prelude.{◌≡◌, ℕ, ◌≤◌, None, Some, length, is_none, ◌<◌, ◌+◌, IfSome, IfErr, OnOk};
 ghost use Rattle.std.specs.List.{list_any};
-ghost use Rattle.class_file.specs.Rules.{is_interface as is_interface_flag, is_final as is_final_flag};
 ghost use Rattle.class_tree.specs.Set.{named_among, flags_of as flags_of_class};
 ghost use Rattle.class_tree.specs.Supers.{lacks_super as lacks_super_of, is_bad_superclass as is_bad_superclass_of, is_bad_interface as is_bad_interface_of, has_bad_super as has_bad_super_of, super_fault as super_fault_of, supers_refusal};
 
 use crate::names::Names;
 use crate::refusal::TreeRefusal;
-use class_file::ClassFile;
+use class_file::{ClassFile, is_final, is_interface};
 use library::FIRST_OWN;
 
 /// The flags of the classes of the library: ACC_PUBLIC.
 const LIBRARY_FLAGS: u16 = 0x0001;
-
-/// The flags have ACC_INTERFACE.
-pub(crate) fn is_interface(flags: u16) -> bool
-    ensures { result ≡ is_interface_flag flags }
-{
-    flags & 0x0200 != 0
-}
-
-/// The flags have ACC_FINAL.
-fn is_final(flags: u16) -> bool
-    ensures { result ≡ is_final_flag flags }
-{
-    flags & 0x0010 != 0
-}
 
 /// The flags of a class by its number.
 pub(crate) fn flags_of(files: &[ClassFile], class: u16) -> u16

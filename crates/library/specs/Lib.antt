@@ -1,2 +1,3 @@
 pub mod Classes
 pub mod Natives
+pub mod Members

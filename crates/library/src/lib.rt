@@ -9,4 +9,4 @@ mod natives;
 mod tests;
 
 pub use classes::{CLASS_COUNT, FIRST_OWN, class_name, class_of_name, superclass_of};
-pub use natives::Native;
+pub use natives::{Native, methods_of};

@@ -1,4 +1,4 @@
-use Rattle.std.proofs.Common.{◌≡◌, ℕ, ◌+◌, ◌<◌, List, Bool, Vec, Global, length, sym, ◌∙◌, ap, subst, arith, [], ◌∷◌, ◌++◌}
+use Rattle.std.proofs.Common.{◌≡◌, ◌+◌, List, Bool, Vec, Global, length, sym, ◌∙◌, ap, subst, arith, [], ◌∷◌}
 use Rattle.std.proofs.lemmas.List.{length-append}
 use Rattle.class_tree.specs.Set.{is_directly_below}
 use Rattle.class_tree.proofs.Tables.{AreRows, rows_more, table_begins}

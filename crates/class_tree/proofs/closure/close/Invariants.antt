@@ -1,4 +1,4 @@
-use Rattle.std.proofs.Common.{◌≡◌, ℕ, map, length}
+use Rattle.std.proofs.Common.{◌≡◌, map, length}
 use Rattle.class_tree.specs.Closure.{Edges, AreOver, IsSquare}
 use Rattle.class_tree.proofs.closure.close.Given as goal
 

@@ -1,4 +1,4 @@
-use Rattle.std.proofs.Common.{Some, None, ap, sym, ◌∙◌, option_map}
+use Rattle.std.proofs.Common.{Some, ap, sym, ◌∙◌, option_map}
 use Rattle.class_tree.specs.Scan.{saturated}
 use Rattle.class_tree.specs.Descriptors.{fault_at, fault_refusal, member_refusal}
 use Rattle.class_tree.proofs.Scans.{scan_more, scan_here, scan_end}

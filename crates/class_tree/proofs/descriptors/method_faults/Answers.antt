@@ -1,4 +1,4 @@
-use Rattle.std.proofs.Common.{ℕ, ◌+◌, [], ◌∷◌, length, subst, sym, ap, ◌∙◌, arith, List, Option}
+use Rattle.std.proofs.Common.{◌+◌, [], ◌∷◌, length, ap, ◌∙◌, arith, List, Option}
 use Rattle.std.proofs.lemmas.List.{length-append}
 use Rattle.class_tree.specs.declared.descriptors.Fault.{Fault}
 use Rattle.class_tree.specs.Descriptors.{fault_at, method_text_fault, method_fault}

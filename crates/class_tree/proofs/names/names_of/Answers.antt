@@ -1,6 +1,5 @@
-use Rattle.std.proofs.Common.{◌≡◌, ℕ, ◌+◌, List, [], ◌∷◌, ◌++◌, map, take, sym, ◌∙◌, ap, inl, inr}
+use Rattle.std.proofs.Common.{ℕ, List, [], ◌∷◌, ◌++◌, map, take, sym, ◌∙◌, ap, inl, inr}
 use Rattle.std.proofs.lemmas.List.{map-append}
-use Rattle.class_file.specs.declared.record.ClassFile.{ClassFile}
 use Rattle.class_tree.specs.Set.{own_name}
 use Rattle.class_tree.specs.Names.{fault_after, name_fault}
 use Rattle.class_tree.proofs.Scans.{scan_more, scan_here, scan_end, taken}

@@ -1,0 +1,3 @@
+mod WayAnswers
+mod Packages
+mod FoundHere

@@ -1,0 +1,10 @@
+use Rattle.std.proofs.Common.{◌≡◌, not, drop}
+use Rattle.class_file.specs.Rules.{is_private}
+use Rattle.class_tree.specs.Upwards.{first_answer}
+use Rattle.class_tree.specs.Members.{method_passing}
+use Rattle.class_find.proofs.along.open_along.Given as goal
+
+abbrev pub invariant-loop-class : goal.invariant-loop-class
+invariant-loop-class l =
+    first_answer (method_passing (λ flags. not (is_private flags)) l.set l.name l.descriptor) (drop l.class-index l.way)
+    ≡ first_answer (method_passing (λ flags. not (is_private flags)) l.set l.name l.descriptor) l.way
