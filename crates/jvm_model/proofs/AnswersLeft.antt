@@ -17,7 +17,7 @@ use Rattle.dialogue.specs.Outcome.{Outcome}
 use Rattle.dialogue.specs.Run as run
 use Rattle.dialogue.specs.Run.{Step, Goes, Ends, Stuck, Progress, Running, Over, Lost, after_step, advance, run_from}
 use Rattle.dialogue.proofs.Gets.{gets-append}
-use Rattle.class_code.specs.declared.insn.SwitchRow.{SwitchRow}
+use Rattle.insn_form.specs.declared.SwitchRow.{SwitchRow}
 use Rattle.jvm_model.specs.State.{Value, Whole, Frame, State}
 use Rattle.jvm_model.specs.Program.{Native, WriteByte, PrintNumber, ReadByte, Callee, OfLibrary, Family, Nop, Const, Load, Store, Inc, Stack, Bin, Negate, Convert, If, IfCmp, Goto, Switch, CallStatic, Return, Placed, Program}
 use Rattle.jvm_model.specs.ProgramOf.{program_of}

@@ -9,7 +9,7 @@ use Rattle.class_file.specs.declared.record.Member.{Member}
 use Rattle.class_pool.specs.Pool.{Slots, integer_at}
 use Rattle.class_pool.specs.Members.{method_name_at}
 use Rattle.class_code.specs.declared.refusal.CodeRefusal.{CodeRefusal}
-use Rattle.class_code.specs.declared.insn.ValueKind.TheVariants as value
+use Rattle.insn_form.specs.declared.ValueKind.TheVariants as value
 use Rattle.class_code.specs.declared.insn.Insn.{Insn}
 use Rattle.class_code.specs.declared.insn.Insn.TheVariants as insns
 use Rattle.class_code.specs.Code.{Insns, AreIn, IsStart, is_start, JumpsToStarts, targets as jump_targets, decoded}

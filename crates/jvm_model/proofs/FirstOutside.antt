@@ -1,5 +1,5 @@
 -- The first instruction outside the form is one, and it is decided whether there is one.
-use Rattle.std.proofs.Common.{◌≡◌, inl, inr, ℕ, suc, Bool, true, false, List, [], ◌∷◌, Option, Some, None, refl, sym, ap, ◌∙◌}
+use Rattle.std.proofs.Common.{◌≡◌, inl, inr, ℕ, Bool, true, false, List, Option, Some, None, refl, sym, ap, ◌∙◌}
 use Rattle.std.proofs.lemmas.Bool.{false≢true}
 use Rattle.std.proofs.lemmas.Option.{none-some, same_Some}
 use Rattle.class_pool.specs.Pool.{Slots}
@@ -12,16 +12,13 @@ use Rattle.class_code.specs.declared.insn.Insn.{Insn}
 use Rattle.class_code.specs.Code.{Insns, decoded}
 use Rattle.jvm_model.specs.declared.refusal.Refusal.{Refusal}
 use Rattle.jvm_model.specs.ProgramOf.{insns_in}
-use Rattle.jvm_model.specs.Reached.{Ways, IsReached, code_ways}
+use Rattle.code_reach.specs.Reached.{Ways, IsReached}
+use Rattle.class_code.specs.Flow.{code_ways}
 use Rattle.jvm_model.specs.declared.refusal.Cause.TheVariants.{Unbuilt}
 use Rattle.jvm_model.specs.Phases.{record_in}
-use Rattle.jvm_model.specs.BuiltForm.{is_plain_insn, unbuilt_at, refusal_by, FirstOf, IfThere, NamesFirst, OutsideInsn, OutsideInsns, OutsideCode, OutsideMethod, OutsideClass, OutsideFile}
-use Rattle.jvm_model.proofs.Decisions.{Decided}
-use Rattle.jvm_model.proofs.ReachedSets.{decide_reached}
-
--- two refusals, or none, of the same are one
-abbrev pub IsOne : (Option Refusal → Type 0) → Type 0
-IsOne Has = (a b : Option Refusal) → Has a → Has b → a ≡ b
+use Rattle.jvm_model.specs.BuiltForm.{is_plain_insn, unbuilt_at, refusal_by, FirstOf, NamesFirst, OutsideInsn, OutsideInsns, OutsideCode, OutsideMethod, OutsideClass, OutsideFile}
+use Rattle.jvm_model.proofs.FirstAnswers.{IsOne, IsSome, one_first, some_first, one_there, some_there}
+use Rattle.jvm_model.proofs.ReachedInsns.{where_reached}
 
 one_insn : (file member : ℕ) (pool : Slots) (ways : Ways) (place : ℕ) (x : ℕ × Insn) → IsOne (OutsideInsn file member pool ways place x)
 one_insn file member pool ways place x None None p q = refl
@@ -30,29 +27,11 @@ one_insn file member pool ways place x (Some a) None p q = absurd (false≢true 
 one_insn file member pool ways place x (Some a) (Some b) p q = ap (λ (why : Refusal). Some why) (p.2 ∙ sym q.2)
 
 module _ {X : Type 0} (Has : ℕ → X → Option Refusal → Type 0) (one : (place : ℕ) (x : X) → IsOne (Has place x)) where
-  one_first : (place : ℕ) (xs : List X) → IsOne (FirstOf Has place xs)
-  one_first place [] None None p q = refl
-  one_first place [] None (Some b) p q = absurd q
-  one_first place [] (Some a) b p q = absurd p
-  one_first place (x ∷ xs) None None p q = refl
-  one_first place (x ∷ xs) None (Some b) p (inl q) = one place x None (Some b) p.0 q
-  one_first place (x ∷ xs) None (Some b) p (inr q) = one_first (suc place) xs None (Some b) p.1 q.1
-  one_first place (x ∷ xs) (Some a) None (inl p) q = one place x (Some a) None p q.0
-  one_first place (x ∷ xs) (Some a) None (inr p) q = one_first (suc place) xs (Some a) None p.1 q.1
-  one_first place (x ∷ xs) (Some a) (Some b) (inl p) (inl q) = one place x (Some a) (Some b) p q
-  one_first place (x ∷ xs) (Some a) (Some b) (inl p) (inr q) = absurd (none-some a (sym (one place x (Some a) None p q.0)))
-  one_first place (x ∷ xs) (Some a) (Some b) (inr p) (inl q) = absurd (none-some b (one place x None (Some b) p.0 q))
-  one_first place (x ∷ xs) (Some a) (Some b) (inr p) (inr q) = one_first (suc place) xs (Some a) (Some b) p.1 q.1
-
   pub one_named : (xs : List X) (a b : Refusal) → NamesFirst Has xs a → NamesFirst Has xs b → a ≡ b
-  one_named xs a b (inl p) (inl q) = same_Some a b (one_first 0 xs (Some a) (Some b) p q)
-  one_named xs a b (inl p) (inr q) = absurd (none-some a (sym (one_first 0 xs (Some a) None p q.0)))
-  one_named xs a b (inr p) (inl q) = absurd (none-some b (one_first 0 xs None (Some b) p.0 q))
+  one_named xs a b (inl p) (inl q) = same_Some a b (one_first Has one 0 xs (Some a) (Some b) p q)
+  one_named xs a b (inl p) (inr q) = absurd (none-some a (sym (one_first Has one 0 xs (Some a) None p q.0)))
+  one_named xs a b (inr p) (inl q) = absurd (none-some b (one_first Has one 0 xs None (Some b) p.0 q))
   one_named xs a b (inr p) (inr q) = p.1 ∙ sym q.1
-
-one_there : {X : Type 0} (Has : X → Option Refusal → Type 0) → ((x : X) → IsOne (Has x)) → (o : Option X) → IsOne (IfThere Has o)
-one_there Has one None a b p q = p ∙ sym q
-one_there Has one (Some x) a b p q = one x a b p q
 
 one_insns : (file member : ℕ) (pool : Slots) (rows : List HandlerRow) (insns : Insns) → IsOne (OutsideInsns file member pool rows insns)
 one_insns file member pool rows insns = one_first (OutsideInsn file member pool (code_ways rows insns)) (one_insn file member pool (code_ways rows insns)) 0 insns
@@ -71,29 +50,12 @@ outside_file_one file bytes = one_there (OutsideClass file) (one_class file) (re
 
 -- ---- there is an answer
 
-abbrev pub IsSome : (Option Refusal → Type 0) → Type 0
-IsSome Has = (found : Option Refusal) × Has found
-
 some_insn : (file member : ℕ) (pool : Slots) (ways : Ways) (place : ℕ) (x : ℕ × Insn) → IsSome (OutsideInsn file member pool ways place x)
-some_insn file member pool ways place x = by_plain (is_plain_insn pool x.1) refl (decide_reached ways x.0)
+some_insn file member pool ways place x = where_reached ways x.0 (OutsideInsn file member pool ways place x) (λ reached. by_plain reached (is_plain_insn pool x.1) refl) (λ none. (None, λ reached. absurd (none reached)))
   where
-    by_plain : (plain : Bool) → is_plain_insn pool x.1 ≡ plain → Decided (IsReached ways x.0) → IsSome (OutsideInsn file member pool ways place x)
-    by_plain true is d = (None, λ _. is)
-    by_plain false is (inl reached) = (Some (unbuilt_at file member x.0), (reached, is, refl))
-    by_plain false is (inr none) = (None, λ reached. absurd (none reached))
-
-some_first : {X : Type 0} (Has : ℕ → X → Option Refusal → Type 0) → ((place : ℕ) (x : X) → IsSome (Has place x)) → (place : ℕ) (xs : List X) → IsSome (FirstOf Has place xs)
-some_first Has each place [] = (None, tt)
-some_first {X} Has each place (x ∷ xs) = by_head (each place x) (some_first Has each (suc place) xs)
-  where
-    by_head : IsSome (Has place x) → IsSome (FirstOf Has (suc place) xs) → IsSome (FirstOf Has place (x ∷ xs))
-    by_head (Some why, has) more = (Some why, inl has)
-    by_head (None, none) (None, rest) = (None, (none, rest))
-    by_head (None, none) (Some why, rest) = (Some why, inr (none, rest))
-
-some_there : {X : Type 0} (Has : X → Option Refusal → Type 0) → ((x : X) → IsSome (Has x)) → (o : Option X) → IsSome (IfThere Has o)
-some_there Has each None = (None, refl)
-some_there Has each (Some x) = each x
+    by_plain : IsReached ways x.0 → (plain : Bool) → is_plain_insn pool x.1 ≡ plain → IsSome (OutsideInsn file member pool ways place x)
+    by_plain reached true is = (None, λ _. is)
+    by_plain reached false is = (Some (unbuilt_at file member x.0), (reached, is, refl))
 
 some_code : (file member : ℕ) (pool : Slots) (code : CodeAttr) → IsSome (OutsideCode file member pool code)
 some_code file member pool code =

@@ -6,7 +6,7 @@ use Rattle.class_file.specs.declared.record.CodeAttr.{CodeAttr}
 use Rattle.class_file.specs.declared.record.Member.{Member}
 use Rattle.jvm_model.specs.Body.{Body}
 use Rattle.jvm_model.specs.ProgramOf.{body_of}
-use Rattle.jvm_model.specs.Reached.{IsReached}
+use Rattle.code_reach.specs.Reached.{IsReached}
 use Rattle.jvm_model.specs.NumberForm.{is_of_form, pops, height_after, is_jump, is_final, reads, writes, is_in, all_targets, body_ways, EndsThere, IsBalanced, IsIn, with_one, AreWritten, IsBelow, HasNumberForm, HasNumberMain}
 use Rattle.jvm_model.proofs.Decisions.{Decided, decide_true, decide_least, decide_most, decide_below, decide_both, decide_implied, decide_same, decide_each}
 use Rattle.jvm_model.proofs.ReachedSets.{decide_reached}

@@ -5,9 +5,13 @@ pub mod NumberRuns
 pub mod Decisions
 pub mod ReachedSets
 pub mod FormDecided
+pub mod FirstAnswers
+pub mod ReachedInsns
 pub mod FirstOutside
+pub mod OneLinking
 pub mod LinkedSets
 pub mod PhaseLists
+pub mod ClosedSets
 pub mod VerdictLaws
 pub mod SetRuns
 pub mod AnswersLeft

@@ -6,6 +6,9 @@ use Rattle.jvm_model.specs.Body.{Body}
 use Rattle.jvm_model.specs.FrameCells.{frame_cells}
 use Rattle.jvm_model.specs.ImageOf.{code_for}
 use Rattle.jvm_model.specs.Linked.{IsNumberFile, Linked}
+use Rattle.jvm_model.specs.ClosedSet.{ClosedSet}
+use Rattle.jvm_model.specs.Linking.{Members}
+use Rattle.jvm_model.specs.Entry.{EntryPoint}
 use Rattle.jvm_model.specs.FrameSize.{FrameSize, most_frame_cells}
 use Rattle.jvm_model.specs.CodeLength.{CodeLength, most_code_bytes}
 use Rattle.jvm_model.specs.Verdict.{Accepted}
@@ -26,8 +29,8 @@ number_set files accepted linked =
       bytes = linked.bytes;
       files_are = linked.files_are;
       number_file = linked.number_file;
-      frame_fits = accepted.1.1.1.1.0 linked;
-      code_fits = accepted.1.1.1.1.1.0 linked;
+      frame_fits = accepted.1.1.1.1.1.1.1.0 linked;
+      code_fits = accepted.1.1.1.1.1.1.1.1.0 linked;
     }
 
 module _ (files : List (List ℕ)) (file : ClassFile) (code : CodeAttr) (body : Body) (is : IsNumberSet files file code body) where
@@ -43,5 +46,6 @@ module _ (files : List (List ℕ)) (file : ClassFile) (code : CodeAttr) (body : 
   code_passes : CodeLength files None
   code_passes linked = subst (λ bytes. bytes ≤ most_code_bytes) (same_size files (record { bytes = is.bytes; files_are = is.files_are; file = file; code = code; body = body; number_file = is.number_file }) linked) is.code_fits
 
-  pub accepted_as : Accepted files
-  accepted_as = (passes.size, (passes.reading, (passes.code, (linked_as, (frame_passes, (code_passes, refl))))))
+  -- a closed set of one such file that stands together and has an entry is accepted
+  pub accepted_as : ClosedSet files None → Members files None → EntryPoint files None → Accepted files
+  accepted_as closed members entry = (passes.size, (passes.reading, (passes.code, (closed, (members, (entry, (linked_as, (frame_passes, (code_passes, refl)))))))))

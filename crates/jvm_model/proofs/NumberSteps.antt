@@ -17,9 +17,9 @@ use Rattle.cell_num.specs.Conversions.{converted}
 use Rattle.dialogue.specs.Dialogue.{Get, putting}
 use Rattle.dialogue.specs.Natives.{low_byte, next_byte, after_byte}
 use Rattle.dialogue.specs.Run.{Step, Goes, Ends, Stuck}
-use Rattle.class_code.specs.declared.insn.StackForm.TheVariants as form
-use Rattle.class_code.specs.declared.insn.SwitchForm.{SwitchForm}
-use Rattle.class_code.specs.declared.insn.SwitchRow.{SwitchRow}
+use Rattle.insn_form.specs.declared.StackForm.TheVariants as form
+use Rattle.insn_form.specs.declared.SwitchForm.{SwitchForm}
+use Rattle.insn_form.specs.declared.SwitchRow.{SwitchRow}
 use Rattle.class_file.specs.declared.record.CodeAttr.{CodeAttr}
 use Rattle.jvm_model.specs.State.{Value, Whole, Null, Name, Frame, State}
 use Rattle.jvm_model.specs.Program.{WriteByte, PrintNumber, ReadByte, OfLibrary, Family, Nop, Const, Load, Store, Inc, Stack, Bin, Negate, Convert, If, IfCmp, Goto, Switch, CallStatic, Return, Program}

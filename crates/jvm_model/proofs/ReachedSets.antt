@@ -3,7 +3,7 @@ use Rattle.std.proofs.Common.{◌≡◌, ℕ, ◌==◌, inl, inr, ◌⊎◌, Boo
 use Rattle.std.specs.List.{AllByRecursion}
 use Rattle.std.proofs.lemmas.Bool.{false≢true}
 use Rattle.std.proofs.lemmas.Bool.Decides.{nat_tests}
-use Rattle.jvm_model.specs.Reached.{Ways, successors, IsClosed, IsReached}
+use Rattle.code_reach.specs.Reached.{Ways, successors, IsClosed, IsReached}
 use Rattle.jvm_model.proofs.Decisions.{Decided}
 
 abbrev pub Pcs : Type 0

@@ -9,12 +9,17 @@ use Rattle.jvm_model.specs.FrameCells.{frame_cells}
 use Rattle.jvm_model.specs.ImageOf.{code_for}
 use Rattle.jvm_model.specs.Phases.{saturated, size_refusal, first_refusal, reading_refusal, code_refusal}
 use Rattle.jvm_model.specs.Linked.{Linked, refusal_of_main}
+use Rattle.jvm_model.specs.ClosedSet.{ClosedSet}
+use Rattle.jvm_model.specs.Linking.{Members}
+use Rattle.jvm_model.specs.Entry.{EntryPoint}
 use Rattle.jvm_model.specs.BuiltForm.{BuiltForm, OutsideFile}
 use Rattle.jvm_model.specs.FrameSize.{FrameSize, most_frame_cells, cells_of}
 use Rattle.jvm_model.specs.CodeLength.{CodeLength, most_code_bytes, bytes_of}
 use Rattle.jvm_model.specs.Verdict.{phases, Verdict, Accepted, AreBytes, IsFunction, AreFunctions}
+use Rattle.jvm_model.proofs.ClosedSets.{closed_total, closed_unique}
 use Rattle.jvm_model.proofs.Decisions.{Decided}
 use Rattle.jvm_model.proofs.FirstOutside.{one_named, outside_file_one, some_named}
+use Rattle.jvm_model.proofs.OneLinking.{members_total, members_unique, entry_total, entry_unique}
 use Rattle.jvm_model.proofs.LinkedSets.{one_linked, decide_linked}
 use Rattle.jvm_model.proofs.PhaseLists.{first_total, first_unique}
 
@@ -25,6 +30,19 @@ Answer = List (List ℕ) → Option Refusal
 
 is_function : (answer : Answer) → IsFunction (λ files found. answer files ≡ found)
 is_function answer = record { total = λ files bytes. (answer files, refl); unique = λ files a b p q. sym p ∙ q }
+
+-- ---- closed sets
+
+closed_function : IsFunction ClosedSet
+closed_function = record { total = λ files bytes. closed_total files; unique = closed_unique }
+
+-- ---- members and the entry
+
+members_function : IsFunction Members
+members_function = record { total = λ files bytes. members_total files; unique = members_unique }
+
+entry_function : IsFunction EntryPoint
+entry_function = record { total = λ files bytes. entry_total files; unique = entry_unique }
 
 -- ---- the form
 
@@ -98,12 +116,21 @@ phase_functions = (
     (
       is_function (first_refusal code_refusal 0),
       (
-        form_function,
+        closed_function,
         (
-          frame_function,
+          members_function,
           (
-            code_function,
-            tt,
+            entry_function,
+            (
+              form_function,
+              (
+                frame_function,
+                (
+                  code_function,
+                  tt,
+                ),
+              ),
+            ),
           ),
         ),
       ),
@@ -119,4 +146,4 @@ verdict_unique = first_unique phases phase_functions
 
 -- what belongs to an accepted set
 pub linked_of : (files : List (List ℕ)) → Accepted files → Linked files
-linked_of files accepted = accepted.1.1.1.0
+linked_of files accepted = accepted.1.1.1.1.1.1.0

@@ -1,6 +1,6 @@
 -- A body: the families of a method's instructions in order, each with its pc, its members resolved.
 use Rattle.std.specs.Prelude.{ℕ, ◌==◌, if◌then◌else◌, List, [], ◌∷◌, Option, Some, None, option_map, option_and_then, codes}
-use Rattle.class_code.specs.declared.insn.ValueKind.TheVariants as value
+use Rattle.insn_form.specs.declared.ValueKind.TheVariants as value
 use Rattle.class_code.specs.declared.insn.Insn.{Insn}
 use Rattle.class_code.specs.declared.insn.Insn.TheVariants as insns
 use Rattle.class_code.specs.Code.{Insns}

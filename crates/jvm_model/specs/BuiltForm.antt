@@ -15,7 +15,8 @@ use Rattle.jvm_model.specs.declared.refusal.Cause.TheVariants.{Unbuilt}
 use Rattle.jvm_model.specs.declared.refusal.Refusal.{Refusal}
 use Rattle.jvm_model.specs.Body.{family_of}
 use Rattle.jvm_model.specs.ProgramOf.{insns_in}
-use Rattle.jvm_model.specs.Reached.{Ways, IsReached, code_ways}
+use Rattle.code_reach.specs.Reached.{Ways, IsReached}
+use Rattle.class_code.specs.Flow.{code_ways}
 use Rattle.jvm_model.specs.NumberForm.{is_of_form}
 use Rattle.jvm_model.specs.Phases.{saturated, record_in}
 use Rattle.jvm_model.specs.Linked.{Linked}

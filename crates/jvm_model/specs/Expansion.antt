@@ -8,10 +8,10 @@ use Rattle.cell_num.specs.declared.conditions.Cond.{Cond}
 use Rattle.cell_num.specs.declared.conditions.Cond.TheVariants as cond
 use Rattle.cell_num.specs.declared.conversions.Conv.{Conv}
 use Rattle.cell_num.specs.declared.conversions.Conv.TheVariants as conv
-use Rattle.class_code.specs.declared.insn.StackForm.TheVariants as form
-use Rattle.class_code.specs.declared.insn.SwitchForm.{SwitchForm}
-use Rattle.class_code.specs.declared.insn.SwitchForm.TheVariants as switch
-use Rattle.class_code.specs.declared.insn.SwitchRow.{SwitchRow}
+use Rattle.insn_form.specs.declared.StackForm.TheVariants as form
+use Rattle.insn_form.specs.declared.SwitchForm.{SwitchForm}
+use Rattle.insn_form.specs.declared.SwitchForm.TheVariants as switch
+use Rattle.insn_form.specs.declared.SwitchRow.{SwitchRow}
 use Rattle.image_instr.specs.declared.insn.SwitchRow as image_row
 use Rattle.image_instr.specs.declared.insn.Operation.{Operation}
 use Rattle.image_instr.specs.declared.insn.Operation.TheVariants as operation

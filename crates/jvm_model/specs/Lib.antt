@@ -3,7 +3,6 @@ pub mod Program
 pub mod Machine
 pub mod Body
 pub mod ProgramOf
-pub mod Reached
 pub mod NumberForm
 pub mod FrameCells
 pub mod Expansion
@@ -11,8 +10,18 @@ pub mod ImageOf
 pub mod Phases
 pub mod Linked
 pub mod BuiltForm
+pub mod ClosedSet
 pub mod FrameSize
 pub mod CodeLength
 pub mod Verdict
 pub mod SetRun
 pub mod SetImage
+pub mod Resolution
+pub mod FieldUses
+pub mod MethodUses
+pub mod Instructions
+pub mod Overrides
+pub mod Initialisers
+pub mod Linking
+pub mod Entry
+pub mod Bodies

@@ -17,9 +17,9 @@ use Rattle.dialogue.specs.Natives.{low_byte, next_byte, after_byte}
 use Rattle.dialogue.specs.Outcome.{Outcome}
 use Rattle.dialogue.specs.Run as run
 use Rattle.dialogue.specs.Run.{Step, Goes, Ends, Stuck, Progress, Running, Over}
-use Rattle.class_code.specs.declared.insn.StackForm.{StackForm}
-use Rattle.class_code.specs.declared.insn.StackForm.TheVariants.{Pop, Pop2, Dup, DupX1, DupX2, Dup2, Dup2X1, Dup2X2, Swap}
-use Rattle.class_code.specs.declared.insn.SwitchRow.{SwitchRow}
+use Rattle.insn_form.specs.declared.StackForm.{StackForm}
+use Rattle.insn_form.specs.declared.StackForm.TheVariants.{Pop, Pop2, Dup, DupX1, DupX2, Dup2, Dup2X1, Dup2X2, Swap}
+use Rattle.insn_form.specs.declared.SwitchRow.{SwitchRow}
 use Rattle.jvm_model.specs.State.{Value, Whole, Frame, State}
 use Rattle.jvm_model.specs.Program.{Native, WriteByte, PrintNumber, ReadByte, Callee, OfLibrary, Family, Nop, Const, Load, Store, Inc, Stack, Bin, Negate, Convert, If, IfCmp, Goto, Switch, CallStatic, Return, Placed, Program}
 

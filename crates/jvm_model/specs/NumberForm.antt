@@ -2,14 +2,14 @@
 -- stack belongs to each pc, and it is 0 wherever a jump leaves or arrives.
 use Rattle.std.specs.Prelude.{◌≡◌, ℕ, ◌+◌, ◌-◌, ◌<◌, ◌≤◌, Bool, true, false, ◌&&◌, ◌||◌, ◌==◌, not, if◌then◌else◌, List, [], ◌∷◌, map, Option, Some, None}
 use Rattle.std.specs.List.{AllByRecursion, flat_map, list_any}
-use Rattle.class_code.specs.declared.insn.StackForm.TheVariants as form
+use Rattle.insn_form.specs.declared.StackForm.TheVariants as form
 use Rattle.class_file.specs.declared.record.ClassFile.{ClassFile}
 use Rattle.class_file.specs.declared.record.CodeAttr.{CodeAttr}
 use Rattle.class_file.specs.declared.record.Member.{Member}
 use Rattle.jvm_model.specs.State.{Whole}
 use Rattle.jvm_model.specs.Program.{WriteByte, PrintNumber, ReadByte, OfLibrary, Family, Const, Load, Store, Inc, Stack, Bin, Negate, Convert, If, IfCmp, Goto, Switch, CallStatic, Return}
 use Rattle.jvm_model.specs.Body.{Body}
-use Rattle.jvm_model.specs.Reached.{Way, Ways, IsReached}
+use Rattle.code_reach.specs.Reached.{Way, Ways, IsReached, plain_ways}
 use Rattle.jvm_model.specs.ProgramOf.{body_of}
 
 -- ---- what a family does
@@ -96,7 +96,7 @@ family_way family = record { goes_on = not (is_final family); targets = targets 
 
 -- the ways of a body
 abbrev pub body_ways : Body → Ways
-body_ways body = map (λ x. (x.0, family_way x.1)) body
+body_ways body = plain_ways family_way body
 
 -- the last instruction does not go on after itself
 abbrev pub EndsThere : Body → Type 0

@@ -4,9 +4,9 @@ use Rattle.std.specs.Prelude.{ℕ, ℤ, Option, List}
 use Rattle.cell_num.specs.declared.arithmetic.BinOp.{BinOp}
 use Rattle.cell_num.specs.declared.conditions.Cond.{Cond}
 use Rattle.cell_num.specs.declared.conversions.Conv.{Conv}
-use Rattle.class_code.specs.declared.insn.StackForm.{StackForm}
-use Rattle.class_code.specs.declared.insn.SwitchForm.{SwitchForm}
-use Rattle.class_code.specs.declared.insn.SwitchRow.{SwitchRow}
+use Rattle.insn_form.specs.declared.StackForm.{StackForm}
+use Rattle.insn_form.specs.declared.SwitchForm.{SwitchForm}
+use Rattle.insn_form.specs.declared.SwitchRow.{SwitchRow}
 use Rattle.jvm_model.specs.State.{FieldName, Value}
 
 -- the natives of the library, all of mote/Console

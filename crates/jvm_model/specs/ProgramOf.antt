@@ -1,5 +1,6 @@
 -- The program that a class file is.
 use Rattle.std.specs.Prelude.{ℕ, ◌==◌, if◌then◌else◌, List, [], length, Option, Some, None, option_and_then, slice_get, Result, Ok, Err}
+use Rattle.library.specs.Classes.{first_own}
 use Rattle.class_code.specs.declared.refusal.CodeRefusal.{CodeRefusal}
 use Rattle.class_code.specs.Code.{Insns, decoded}
 use Rattle.class_file.specs.declared.record.ClassFile.{ClassFile}
@@ -9,9 +10,9 @@ use Rattle.class_pool.specs.Pool.{Slots}
 use Rattle.jvm_model.specs.Program.{Placed, Program}
 use Rattle.jvm_model.specs.Body.{Body, families_of, placed_in}
 
--- the number of the first file's class; the numbers below are the library's
+-- the number of the first file's class
 abbrev pub first_class : ℕ
-first_class = 32
+first_class = first_own
 
 abbrev pub insns_in : Result Insns CodeRefusal → Option Insns
 insns_in (Ok insns) = Some insns

@@ -4,6 +4,9 @@ use Rattle.std.specs.Prelude.{◌≡◌, ◌⊎◌, ℕ, ◌<◌, List, [], ◌�
 use Rattle.std.specs.List.{AllByRecursion}
 use Rattle.jvm_model.specs.declared.refusal.Refusal.{Refusal}
 use Rattle.jvm_model.specs.Phases.{SetSize, Reading, MethodCode}
+use Rattle.jvm_model.specs.ClosedSet.{ClosedSet}
+use Rattle.jvm_model.specs.Linking.{Members}
+use Rattle.jvm_model.specs.Entry.{EntryPoint}
 use Rattle.jvm_model.specs.BuiltForm.{BuiltForm}
 use Rattle.jvm_model.specs.FrameSize.{FrameSize}
 use Rattle.jvm_model.specs.CodeLength.{CodeLength}
@@ -22,6 +25,9 @@ phases =
     SetSize
     ∷ Reading
     ∷ MethodCode
+    ∷ ClosedSet
+    ∷ Members
+    ∷ EntryPoint
     ∷ BuiltForm
     ∷ FrameSize
     ∷ CodeLength

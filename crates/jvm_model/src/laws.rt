@@ -3,11 +3,14 @@ ghost use Rattle.dialogue.specs.Answers.{Answers, answers_of};
 ghost use Rattle.dialogue.specs.Dialogue.{gets};
 ghost use Rattle.dialogue.specs.Limits.{Limits};
 ghost use Rattle.dialogue.specs.Outcome.{Outcome};
+ghost use Rattle.class_file.specs.declared.record.ClassFile.{ClassFile};
 ghost use Rattle.image_form.specs.declared.record.Image.{Image};
 ghost use Rattle.jvm_model.specs.declared.refusal.Refusal.{Refusal};
 ghost use Rattle.jvm_model.specs.Program.{Program};
 ghost use Rattle.jvm_model.specs.Machine.{Ending, EndsSo, LimitedSo};
 ghost use Rattle.jvm_model.specs.Linked.{Linked};
+ghost use Rattle.jvm_model.specs.Linking.{Linking};
+ghost use Rattle.jvm_model.specs.Entry.{entry_refusal, Entering};
 ghost use Rattle.jvm_model.specs.Verdict.{Verdict, Accepted, AreBytes, AreFunctions, phases};
 ghost use Rattle.jvm_model.specs.SetRun.{Run, LimitedRun, is_want, IsPrefix};
 ghost use Rattle.jvm_model.specs.SetImage.{IsImageOf};
@@ -18,6 +21,15 @@ pub fn one_verdict()
     ensures phases { AreFunctions phases }
     ensures total { (files : List (List ℕ)) → AreBytes files → (found : Option Refusal) × Verdict files found }
     ensures unique { (files : List (List ℕ)) (first second : Option Refusal) → Verdict files first → Verdict files second → first ≡ second }
+{}
+
+/// The phase of members has an answer for each list of classes, and one at most; that of the entry is a function
+/// of them.
+pub fn one_linking()
+    ensures total { (files : List ClassFile) → (found : Option Refusal) × Linking files found }
+    ensures unique { (files : List ClassFile) (first second : Option Refusal) → Linking files first → Linking files second → first ≡ second }
+    ensures entry { (files : List ClassFile) → Entering files (entry_refusal files) }
+    ensures one_entry { (files : List ClassFile) (first second : Option Refusal) → Entering files first → Entering files second → first ≡ second }
 {}
 
 /// What belongs to an accepted set is there, and it is one. So is the image.

@@ -1,0 +1,14 @@
+mod NamedClasses
+mod TestedAccess
+mod FirstRefusals
+mod Refusing
+mod Adding
+mod FoundFirst
+mod Placed
+mod Overridden
+mod FilesAbove
+mod Entries
+mod CodeNamed
+mod Initialised
+mod ClassBodies
+mod Unlinked
