@@ -1,12 +1,13 @@
 -- The dimensions of the types of an image as a table, made once.
 use Rattle.std.specs.Prelude.{◌≡◌, ℕ, ◌+◌, ◌-◌, ◌≤◌, min, nat_lt, nat_le, if◌then◌else◌, List, get_or}
+use Rattle.library.specs.Classes.{first_own}
 use Rattle.image_form.specs.declared.record.TypeEntry.{TypeEntry}
 use Rattle.image_form.specs.declared.record.TypeEntry.TheVariants.{Class, RefArray, NumArray}
 use Rattle.image_check.specs.Ids.{has_dimensions}
 
 -- the dimensions of the type of the id, by the table of those of the image's types
 abbrev pub dimensions_in : List ℕ → ℕ → ℕ
-dimensions_in table id = if nat_lt id 32 then 0 else get_or table (id - 32) 0
+dimensions_in table id = if nat_lt id first_own then 0 else get_or table (id - first_own) 0
 
 -- those of a type after the types of the table; 255 are the most that are counted
 abbrev pub dimensions_after : List ℕ → TypeEntry → ℕ

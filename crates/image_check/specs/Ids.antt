@@ -12,7 +12,8 @@ use Rattle.image_form.specs.declared.record.Image.{Image}
 use Rattle.image_form.specs.declared.record.Method.{Method}
 use Rattle.image_form.specs.declared.record.TypeEntry.{TypeEntry}
 use Rattle.image_form.specs.declared.record.TypeEntry.TheVariants.{Class, RefArray, NumArray}
-use Rattle.image_form.specs.Library.{is_library_type, names_type, names_interface, signature, signature_in}
+use Rattle.library.specs.Classes.{first_own, is_library_class}
+use Rattle.image_form.specs.Library.{names_type, names_interface, signature, signature_in}
 
 -- ---- calls
 
@@ -57,7 +58,7 @@ is_concrete_entry None = false
 
 -- the id names such a class; each class of the library is one
 abbrev pub names_concrete : List TypeEntry → ℕ → Bool
-names_concrete types id = if nat_lt id 32 then is_library_type id else is_concrete_entry (slice_get types (id - 32))
+names_concrete types id = if nat_lt id first_own then is_library_class id else is_concrete_entry (slice_get types (id - first_own))
 
 abbrev pub is_array_entry : Option TypeEntry → Bool
 is_array_entry (Some (Class class)) = false
@@ -67,7 +68,7 @@ is_array_entry None = false
 
 -- the id names an array type; the library has none
 abbrev pub names_array : List TypeEntry → ℕ → Bool
-names_array types id = if nat_lt id 32 then false else is_array_entry (slice_get types (id - 32))
+names_array types id = if nat_lt id first_own then false else is_array_entry (slice_get types (id - first_own))
 
 -- the type of the elements, where they are references, else 0
 abbrev pub element_entry : Option TypeEntry → ℕ
@@ -77,7 +78,7 @@ element_entry (Some (NumArray kind)) = 0
 element_entry None = 0
 
 abbrev pub element_of : List TypeEntry → ℕ → ℕ
-element_of types id = if nat_lt id 32 then 0 else element_entry (slice_get types (id - 32))
+element_of types id = if nat_lt id first_own then 0 else element_entry (slice_get types (id - first_own))
 
 -- the id names an array type of at least so many dimensions
 unfoldable pub has_dimensions : List TypeEntry → ℕ → ℕ → Bool

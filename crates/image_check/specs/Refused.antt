@@ -2,6 +2,7 @@
 -- all rules hold, an instruction that the machine does not run.
 use Rattle.std.specs.Prelude.{◌≡◌, ◌≢◌, ℕ, ◌+◌, ◌-◌, ◌<◌, ◌≤◌, true, false, IsTrue, List, length, drop, Some, None, ◌⊎◌, slice_get}
 use Rattle.std.specs.List.{Contains}
+use Rattle.library.specs.Classes.{first_own}
 use Rattle.image_instr.specs.declared.insn.MInsn.{MInsn}
 use Rattle.image_instr.specs.Reading.{insn_at}
 use Rattle.image_form.specs.declared.record.Image.{Image}
@@ -83,8 +84,8 @@ pub record IsNoForm (image : Image) (refusal : CheckRefusal) : Type 0 where
 pub record FailsThere (image : Image) (refusal : CheckRefusal) : Type 0 where
   pub form : has_built_form image ≡ true
   pub method : Method
-  pub is_method : slice_get image.methods (refusal.method - 32) ≡ Some method
-  pub own : 32 ≤ refusal.method
+  pub is_method : slice_get image.methods (refusal.method - first_own) ≡ Some method
+  pub own : first_own ≤ refusal.method
   pub fails : FailsIn image method refusal.cause refusal.pc
 
 -- the machine does not run the instruction that is at the offset
@@ -96,8 +97,8 @@ pub record IsUnbuiltThere (image : Image) (refusal : CheckRefusal) : Type 0 wher
   pub form : has_built_form image ≡ true
   pub checked : IsChecked image
   pub method : Method
-  pub is_method : slice_get image.methods (refusal.method - 32) ≡ Some method
-  pub own : 32 ≤ refusal.method
+  pub is_method : slice_get image.methods (refusal.method - first_own) ≡ Some method
+  pub own : first_own ≤ refusal.method
   pub cause : refusal.cause ≡ Unbuilt
   pub unbuilt : IsUnbuiltAt method refusal.pc
 

@@ -6,7 +6,7 @@ use Rattle.image_form.specs.declared.record.TypeEntry.{TypeEntry}
 use Rattle.image_form.specs.declared.record.TypeEntry.TheVariants.{Class}
 use Rattle.image_form.specs.declared.record.ClassEntry.{ClassEntry}
 use Rattle.image_form.specs.declared.record.Method.{Method}
-use Rattle.image_form.specs.Library.{is_library_type}
+use Rattle.library.specs.Classes.{is_library_class}
 use Rattle.image_form.specs.Grammar.{IsClass, IsMethod, IsMain, IsImage}
 use Rattle.image_form.specs.SmallForm.{small_class, small_method, small_image, IsSmallClass, IsSmallMethod, IsSmall}
 
@@ -17,7 +17,7 @@ of_library id there other le = ap (λ b. cond b there other) (lt-ltb id 32 (omeg
 class_is : (class : ClassEntry) (s : IsSmallClass class) → IsClass [] (small_class s.parent s.name)
 class_is class s = record {
   parent_fits = omega (arith, s.parent_is);
-  parent_is = of_library s.parent (is_library_type s.parent) false s.parent_is ∙ lt-ltb s.parent 15 (omega (arith, s.parent_is));
+  parent_is = of_library s.parent (is_library_class s.parent) false s.parent_is ∙ lt-ltb s.parent 15 (omega (arith, s.parent_is));
   flags_are = omega arith;
   refs_cover = omega (arith, of_library {A = ℕ} s.parent 0 0 s.parent_is);
   nums_cover = omega (arith, of_library {A = ℕ} s.parent 0 0 s.parent_is);

@@ -1,6 +1,7 @@
 -- Which images an infusion of version 1 may hold, and what it is to be encoded: each rule is a field.
 use Rattle.std.specs.Prelude.{◌≡◌, ◌≢◌, ◌⊎◌, ℕ, ◌+◌, ◌-◌, ◌^◌, ◌<◌, ◌≤◌, ◌==◌, Bool, true, false, ◌||◌, IsTrue, nat_lt, List, [], ◌∷◌, ◌++◌, length, slice_get, Option, Some, None}
 use Rattle.std.specs.List.{list_any}
+use Rattle.library.specs.Classes.{first_own}
 use Rattle.image_instr.specs.declared.signature.Sig.{Sig}
 use Rattle.image_form.specs.declared.record.Image.{Image}
 use Rattle.image_form.specs.declared.record.TypeEntry.{TypeEntry}
@@ -139,8 +140,8 @@ HasSignatures selectors methods (NumArray kind) = Unit {0}
 pub record IsMain (methods : List Method) (main : ℕ) : Type 0 where
   pub method : Method
   pub main_fits : main < 2 ^ 16
-  pub not_library : 32 ≤ main
-  pub method_is : slice_get methods (main - 32) ≡ Some method
+  pub not_library : first_own ≤ main
+  pub method_is : slice_get methods (main - first_own) ≡ Some method
   pub sig_is : method.sig ≡ signature 0 0 0
 
 -- with the 32 ids of the library there are at most 4,096 types and 16,384 methods

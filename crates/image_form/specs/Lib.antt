@@ -6,3 +6,4 @@ pub mod Reading
 pub mod Refused
 pub mod Laws
 pub mod Prefixes
+pub mod Arrays

@@ -1,6 +1,7 @@
--- The library: its types, the signatures of its methods, and what an id names. Ids of types and methods
--- below 32 are the library's, those from 32 on count the entries of an image.
-use Rattle.std.specs.Prelude.{ℕ, ◌-◌, ◌%◌, ◌==◌, Bool, true, false, not, nat_lt, if◌then◌else◌, List, [], ◌∷◌, length, get_or, slice_get, Option, Some, None, option_map, codes}
+-- What the ids of types and methods name: those of the library, and the entries of an image, which have the
+-- ids after the library's.
+use Rattle.std.specs.Prelude.{ℕ, ◌-◌, ◌%◌, ◌==◌, Bool, true, false, not, nat_lt, if◌then◌else◌, List, [], ◌∷◌, length, get_or, slice_get, Option, Some, None, option_map}
+use Rattle.library.specs.Classes.{first_own, class_names, is_library_class}
 use Rattle.image_instr.specs.declared.signature.Sig.{Sig}
 use Rattle.image_form.specs.declared.record.Image.{Image}
 use Rattle.image_form.specs.declared.record.Method.{Method}
@@ -8,36 +9,7 @@ use Rattle.image_form.specs.declared.record.ClassEntry.{ClassEntry}
 use Rattle.image_form.specs.declared.record.TypeEntry.{TypeEntry}
 use Rattle.image_form.specs.declared.record.TypeEntry.TheVariants.{Class, RefArray, NumArray}
 
--- ---- the library's types and methods
-
--- the names of the library's types, that of id 0 first
-abbrev pub library_names : List (List ℕ)
-library_names =
-    codes "java/lang/Object"
-    ∷ codes "java/lang/Throwable"
-    ∷ codes "java/lang/Exception"
-    ∷ codes "java/lang/RuntimeException"
-    ∷ codes "java/lang/ArithmeticException"
-    ∷ codes "java/lang/NullPointerException"
-    ∷ codes "java/lang/ClassCastException"
-    ∷ codes "java/lang/ArrayStoreException"
-    ∷ codes "java/lang/NegativeArraySizeException"
-    ∷ codes "java/lang/IndexOutOfBoundsException"
-    ∷ codes "java/lang/ArrayIndexOutOfBoundsException"
-    ∷ codes "java/lang/Error"
-    ∷ codes "java/lang/LinkageError"
-    ∷ codes "java/lang/IncompatibleClassChangeError"
-    ∷ codes "mote/Console"
-    ∷ []
-
--- the superclasses of the library's types, that of id 0 first, which has none
-abbrev pub library_parents : List (Option ℕ)
-library_parents =
-    None ∷ Some 0 ∷ Some 1 ∷ Some 2 ∷ Some 3 ∷ Some 3 ∷ Some 3 ∷ Some 3 ∷ Some 3 ∷ Some 3 ∷ Some 9 ∷ Some 1 ∷ Some 11 ∷ Some 12 ∷ Some 0 ∷ []
-
--- the ids below 15 are classes of the library without fields and flags; 15 to 31 name no type
-abbrev pub is_library_type : ℕ → Bool
-is_library_type id = nat_lt id 15
+-- ---- the library's methods
 
 -- a signature: references and cells as arguments, and the code of the result
 abbrev pub signature : (refs cells result : ℕ) → Sig
@@ -76,19 +48,19 @@ is_interface_entry None = false
 
 -- the id names a type
 abbrev pub names_type : List TypeEntry → ℕ → Bool
-names_type types id = if nat_lt id 32 then is_library_type id else nat_lt (id - 32) (length types)
+names_type types id = if nat_lt id first_own then is_library_class id else nat_lt (id - first_own) (length types)
 
 -- the id names a class or an interface
 abbrev pub names_class : List TypeEntry → ℕ → Bool
-names_class types id = if nat_lt id 32 then is_library_type id else is_class_entry (slice_get types (id - 32))
+names_class types id = if nat_lt id first_own then is_library_class id else is_class_entry (slice_get types (id - first_own))
 
 -- the id names a class and no interface
 abbrev pub names_parent : List TypeEntry → ℕ → Bool
-names_parent types id = if nat_lt id 32 then is_library_type id else is_parent_entry (slice_get types (id - 32))
+names_parent types id = if nat_lt id first_own then is_library_class id else is_parent_entry (slice_get types (id - first_own))
 
 -- the id names an interface
 abbrev pub names_interface : List TypeEntry → ℕ → Bool
-names_interface types id = if nat_lt id 32 then false else is_interface_entry (slice_get types (id - 32))
+names_interface types id = if nat_lt id first_own then false else is_interface_entry (slice_get types (id - first_own))
 
 -- the reference fields of an object of this entry
 abbrev pub entry_refs : Option TypeEntry → ℕ
@@ -106,17 +78,17 @@ entry_nums None = 0
 
 -- the reference fields of an object of this type; those of the library have none
 abbrev pub refs_of : List TypeEntry → ℕ → ℕ
-refs_of types id = if nat_lt id 32 then 0 else entry_refs (slice_get types (id - 32))
+refs_of types id = if nat_lt id first_own then 0 else entry_refs (slice_get types (id - first_own))
 
 -- the other cells of an object of this type; those of the library have none
 abbrev pub nums_of : List TypeEntry → ℕ → ℕ
-nums_of types id = if nat_lt id 32 then 0 else entry_nums (slice_get types (id - 32))
+nums_of types id = if nat_lt id first_own then 0 else entry_nums (slice_get types (id - first_own))
 
 -- ---- what the id of a method names
 
 -- the signature of a method of the library or of an image with these methods
 abbrev pub signature_in : List Method → ℕ → Option Sig
-signature_in methods id = if nat_lt id 32 then slice_get library_signatures id else option_map (λ method. method.sig) (slice_get methods (id - 32))
+signature_in methods id = if nat_lt id first_own then slice_get library_signatures id else option_map (λ method. method.sig) (slice_get methods (id - first_own))
 
 -- ---- names
 
@@ -130,4 +102,4 @@ entry_name None = []
 -- the name of the type of this id, empty where the id has none
 abbrev pub name_of : Image → ℕ → List ℕ
 name_of image id =
-    if nat_lt id 32 then get_or library_names id [] else entry_name (slice_get image.types (id - 32))
+    if nat_lt id first_own then get_or class_names id [] else entry_name (slice_get image.types (id - first_own))

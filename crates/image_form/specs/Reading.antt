@@ -3,6 +3,7 @@
 use Rattle.std.specs.Prelude.{ℕ, suc, ◌+◌, ◌-◌, Bool, true, false, ◌&&◌, ◌||◌, not, ◌==◌, nat_lt, nat_le, if◌then◌else◌, List, [], ◌∷◌, length, take, drop, slice_get, Option, Some, None, Result, Ok, Err}
 use Rattle.std.specs.Str.{bytes_eq}
 use Rattle.std.specs.List.{list_any, list_all}
+use Rattle.library.specs.Classes.{first_own}
 use Rattle.byte_read.specs.Reading.{◌>>=◌, u1_at as byte_at, number_at, slice_at as bytes_at, steps_at, one_more}
 use Rattle.image_instr.specs.declared.signature.Sig.{Sig}
 use Rattle.image_form.specs.declared.record.Image.{Image}
@@ -230,7 +231,7 @@ is_bare None = false
 
 -- the id is that of a method that may be main
 abbrev pub names_main : List Method → ℕ → Bool
-names_main methods id = if nat_lt id 32 then false else is_bare (slice_get methods (id - 32))
+names_main methods id = if nat_lt id first_own then false else is_bare (slice_get methods (id - first_own))
 
 -- the id of main
 unfoldable pub main_at : List Method → List ℕ → Result (ℕ × List ℕ) FormRefusal

@@ -1,6 +1,7 @@
 -- The small form of images: one class without fields, interfaces and rows, and one method, main,
 -- without arguments, result and handlers.
 use Rattle.std.specs.Prelude.{◌≡◌, ℕ, ◌+◌, ◌≤◌, List, [], ◌∷◌, length}
+use Rattle.library.specs.Classes.{first_own}
 use Rattle.image_form.specs.declared.record.Image.{Image}
 use Rattle.image_form.specs.declared.record.TypeEntry.TheVariants.{Class}
 use Rattle.image_form.specs.declared.record.ClassEntry.{ClassEntry}
@@ -33,7 +34,7 @@ small_image class method =
       methods = method ∷ [];
       static_refs = 0;
       static_cells = [];
-      main = 32;
+      main = first_own;
     }
 
 -- the class stands below a type of the library, and its name has a length in two bytes

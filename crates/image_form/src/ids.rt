@@ -2,19 +2,18 @@
 
 ghost use Rattle.std.specs.Prelude.{◌≡◌, ◌-◌, ◌≤◌, slice_get, length, option_copied};
 ghost use Rattle.image_form.specs.Reading.{names_main};
-ghost use Rattle.image_form.specs.Library.{is_library_type, is_interface, names_type, names_class, names_parent, names_interface, refs_of, nums_of, library_signatures, signature_in};
+ghost use Rattle.library.specs.Classes.{is_library_class};
+ghost use Rattle.image_form.specs.Library.{is_interface, names_type, names_class, names_parent, names_interface, refs_of, nums_of, library_signatures, signature_in};
 
 use crate::record::{ClassEntry, Method, TypeEntry};
 use image_instr::Sig;
-
-/// The first id that is not the library's.
-const FIRST: u16 = 32;
+use library::{CLASS_COUNT, FIRST_OWN};
 
 /// The library has a type of this id.
 fn is_library_type(id: u16) -> bool
-    ensures { result ≡ is_library_type id }
+    ensures { result ≡ is_library_class id }
 {
-    id < 15
+    id < CLASS_COUNT
 }
 
 /// The entry of a type that is not the library's.
@@ -22,7 +21,7 @@ fn entry_of(types: &[TypeEntry], id: u16) -> Option<&TypeEntry>
     requires { 32 ≤ id }
     ensures { option_copied result ≡ slice_get types.now (id - 32) }
 {
-    types.get(usize::from(id - FIRST))
+    types.get(usize::from(id - FIRST_OWN))
 }
 
 /// The class is an interface.
@@ -36,17 +35,17 @@ fn is_interface(class: &ClassEntry) -> bool
 pub fn names_type(types: &[TypeEntry], id: u16) -> bool
     ensures { result ≡ names_type types.now id }
 {
-    if id < FIRST {
+    if id < FIRST_OWN {
         return is_library_type(id);
     }
-    usize::from(id - FIRST) < types.len()
+    usize::from(id - FIRST_OWN) < types.len()
 }
 
 /// The id names a class or an interface.
 pub(crate) fn names_class(types: &[TypeEntry], id: u16) -> bool
     ensures { result ≡ names_class types.now id }
 {
-    if id < FIRST {
+    if id < FIRST_OWN {
         return is_library_type(id);
     }
     matches!(entry_of(types, id), Some(TypeEntry::Class(_)))
@@ -56,7 +55,7 @@ pub(crate) fn names_class(types: &[TypeEntry], id: u16) -> bool
 pub(crate) fn names_parent(types: &[TypeEntry], id: u16) -> bool
     ensures { result ≡ names_parent types.now id }
 {
-    if id < FIRST {
+    if id < FIRST_OWN {
         return is_library_type(id);
     }
     match entry_of(types, id) {
@@ -69,7 +68,7 @@ pub(crate) fn names_parent(types: &[TypeEntry], id: u16) -> bool
 pub fn names_interface(types: &[TypeEntry], id: u16) -> bool
     ensures { result ≡ names_interface types.now id }
 {
-    if id < FIRST {
+    if id < FIRST_OWN {
         return false;
     }
     match entry_of(types, id) {
@@ -82,7 +81,7 @@ pub fn names_interface(types: &[TypeEntry], id: u16) -> bool
 pub(crate) fn refs_of(types: &[TypeEntry], id: u16) -> u16
     ensures { result ≡ refs_of types.now id }
 {
-    if id < FIRST {
+    if id < FIRST_OWN {
         return 0;
     }
     match entry_of(types, id) {
@@ -95,7 +94,7 @@ pub(crate) fn refs_of(types: &[TypeEntry], id: u16) -> u16
 pub(crate) fn nums_of(types: &[TypeEntry], id: u16) -> u16
     ensures { result ≡ nums_of types.now id }
 {
-    if id < FIRST {
+    if id < FIRST_OWN {
         return 0;
     }
     match entry_of(types, id) {
@@ -126,10 +125,10 @@ fn library_signature(id: u16) -> Option<Sig>
 pub fn signature_in(methods: &[Method], id: u16) -> Option<Sig>
     ensures { result ≡ signature_in methods.now id }
 {
-    if id < FIRST {
+    if id < FIRST_OWN {
         return library_signature(id);
     }
-    let method = methods.get(usize::from(id - FIRST))?;
+    let method = methods.get(usize::from(id - FIRST_OWN))?;
     Some(method.sig)
 }
 
@@ -137,10 +136,10 @@ pub fn signature_in(methods: &[Method], id: u16) -> Option<Sig>
 pub(crate) fn names_main(methods: &[Method], id: u16) -> bool
     ensures { result ≡ names_main methods.now id }
 {
-    if id < FIRST {
+    if id < FIRST_OWN {
         return false;
     }
-    match methods.get(usize::from(id - FIRST)) {
+    match methods.get(usize::from(id - FIRST_OWN)) {
         Some(method) => method.sig.refs == 0 && method.sig.cells == 0 && method.sig.result == 0,
         None => false,
     }

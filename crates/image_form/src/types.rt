@@ -1,8 +1,13 @@
 //! The table of types: classes and interfaces, each after its superclass and its superinterfaces, and
 //! arrays, each after its elements.
 
-ghost use Rattle.std.specs.Prelude.{◌≡◌, ◌+◌, ◌-◌, ◌^◌, ◌<◌, ◌≤◌, ◌&&◌, not, nat_le, [], length, slice_get, IfOk};
+ghost use Rattle.std.specs.Prelude.{◌≡◌, ◌+◌, ◌-◌, ◌^◌, ◌<◌, ◌≤◌, ◌&&◌, not, nat_le, List, [], ◌∷◌, ◌++◌, length, slice_get, IfOk, IfErr};
 ghost use Rattle.std.specs.List.{list_any};
+ghost use Rattle.std.specs.BTreeSet.{contains};
+ghost use Rattle.std.specs.Ordering.{nat_cmp};
+ghost use Rattle.image_form.specs.declared.record.TypeEntry.{TypeEntry as EarlierType};
+ghost use Rattle.image_form.specs.declared.refusal.FormRefusal.TheVariants.{Memory};
+ghost use Rattle.image_form.specs.Arrays.{AreArrays};
 ghost use Rattle.image_form.specs.Refused.{Shows};
 ghost use Rattle.image_form.specs.Library.{names_parent, names_interface};
 ghost use Rattle.image_form.specs.Grammar.{is_above, is_ref_array, is_num_array, is_kind, most_types};
@@ -14,6 +19,10 @@ use crate::record::{ClassEntry, DispatchRow, TypeEntry};
 use crate::refusal::FormRefusal;
 use item_list::Items;
 use std::alloc::Global;
+use std::collections::BTreeSet;
+
+/// The types whose arrays are among the types that were read, by their ids.
+type Arrays = BTreeSet<u16>;
 
 /// With the 32 ids of the library there are 4,096.
 const MOST_TYPES: u16 = 4064;
@@ -242,10 +251,21 @@ fn class_at<'a>(
 }
 
 /// One of the types is the array of elements of this type.
-fn has_ref_array(types: &[TypeEntry], element: u16) -> bool
-    ensures { result ≡ list_any (is_ref_array element) types.now }
+fn has_ref_array(arrays: &Arrays, element: u16) -> bool
+    ensures { result ≡ contains nat_cmp arrays.now element }
 {
-    types.iter().any(|entry| matches!(entry, TypeEntry::RefArray { of } if *of == element))
+    arrays.contains(&element)
+}
+
+/// Notes a type that was read.
+fn note(arrays: &mut Arrays, entry: &TypeEntry) -> Result<(), FormRefusal>
+    ensures arrays { (types : List EarlierType) → AreArrays types arrays.old → IfOk result (λ done. AreArrays (types ++ entry.now ∷ []) arrays.new) }
+    ensures memory { IfErr result (λ why. why ≡ Memory) }
+{
+    if let TypeEntry::RefArray { of } = entry {
+        arrays.insert(*of)?;
+    }
+    Ok(())
 }
 
 /// One of the types is the array of whole numbers of this kind.
@@ -257,12 +277,17 @@ fn has_num_array(types: &[TypeEntry], kind: u8) -> bool
 
 /// The element type of an array that is not among these types.
 #[tactic(auto, unfolding(crate::specs::Reading::element_at))]
-fn element_at<'a>(types: &[TypeEntry], bytes: &'a [u8]) -> Result<(u16, &'a [u8]), FormRefusal>
-    requires { length types.now < 2 ^ 16 }
+fn element_at<'a>(
+    types: &[TypeEntry],
+    arrays: &Arrays,
+    bytes: &'a [u8],
+) -> Result<(u16, &'a [u8]), FormRefusal>
+    requires few { length types.now < 2 ^ 16 }
+    requires arrays { AreArrays types.now arrays.now }
     ensures { Shows (λ x. (x.0, x.1.now)) result (element_at types.now bytes.now) }
 {
     let (element, rest) = u2_at(bytes)?;
-    if !names_type(types, element) || has_ref_array(types, element) {
+    if !names_type(types, element) || has_ref_array(arrays, element) {
         return Err(bad_next(types));
     }
     Ok((element, rest))
@@ -293,10 +318,12 @@ fn kind_at<'a>(types: &[TypeEntry], bytes: &'a [u8]) -> Result<(u8, &'a [u8]), F
 fn tagged_at<'a>(
     alloc: Global,
     types: &[TypeEntry],
+    arrays: &Arrays,
     tag: u8,
     bytes: &'a [u8],
 ) -> Result<(TypeEntry, &'a [u8]), FormRefusal>
-    requires { length types.now < 2 ^ 16 }
+    requires few { length types.now < 2 ^ 16 }
+    requires arrays { AreArrays types.now arrays.now }
     ensures { Shows (λ x. (x.0, x.1.now)) result (tagged_at types.now tag bytes.now) }
 {
     match tag {
@@ -305,7 +332,7 @@ fn tagged_at<'a>(
             Ok((TypeEntry::Class(class), rest))
         }
         1 => {
-            let (of, rest) = element_at(types, bytes)?;
+            let (of, rest) = element_at(types, arrays, bytes)?;
             Ok((TypeEntry::RefArray { of }, rest))
         }
         2 => {
@@ -321,13 +348,15 @@ fn tagged_at<'a>(
 fn type_at<'a>(
     alloc: Global,
     types: &[TypeEntry],
+    arrays: &Arrays,
     bytes: &'a [u8],
 ) -> Result<(TypeEntry, &'a [u8]), FormRefusal>
-    requires { length types.now < 2 ^ 16 }
+    requires few { length types.now < 2 ^ 16 }
+    requires arrays { AreArrays types.now arrays.now }
     ensures { Shows (λ x. (x.0, x.1.now)) result (type_at types.now bytes.now) }
 {
     let (tag, rest) = u1_at(bytes)?;
-    tagged_at(alloc, types, tag, rest)
+    tagged_at(alloc, types, arrays, tag, rest)
 }
 
 /// So many types.
@@ -340,9 +369,11 @@ fn listed_types(
     ensures count { IfOk result (λ x. length x.0.items ≤ count) }
 {
     let mut types = Vec::new(alloc);
+    let mut arrays = BTreeSet::new(alloc);
     let mut rest = bytes;
     for _ in 0..count {
-        let (entry, after) = type_at(alloc, types.as_slice(), rest)?;
+        let (entry, after) = type_at(alloc, types.as_slice(), &arrays, rest)?;
+        note(&mut arrays, &entry)?;
         types.push(entry)?;
         rest = after;
     }

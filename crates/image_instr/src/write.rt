@@ -7,7 +7,7 @@ ghost use Rattle.image_instr.specs.Insn.{u2, i1, i2, i4, index as index_bytes, h
 use crate::code::*;
 use crate::insn::{MInsn, SwitchRow};
 use byteorder::{BigEndian, ByteOrder};
-use std::alloc::AllocError;
+use std::alloc::{AllocError, Global};
 
 /// Want of memory.
 pub type Memory = AllocError;
@@ -288,7 +288,12 @@ fn append(insn: MInsn, rows: &[SwitchRow], out: &mut Vec<u8>) -> Result<(), Memo
 
 /// Appends the bytes of an instruction, with the rows of a switch. `decode_at` reads it again at the
 /// place where it was appended.
-pub fn encode(insn: MInsn, rows: &[SwitchRow], out: &mut Vec<u8>) -> Result<(), Memory>
+pub fn encode(
+    _alloc: Global,
+    insn: MInsn,
+    rows: &[SwitchRow],
+    out: &mut Vec<u8>,
+) -> Result<(), Memory>
     // The operands keep to the limits, and the rows are those of the instruction.
     requires limits { KeepsLimits insn }
     requires rows_of { AreRowsOf insn rows.now }

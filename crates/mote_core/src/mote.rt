@@ -13,15 +13,13 @@ use host_face::Console;
 use image_check::Checked;
 use image_form::{Image, Method};
 use image_instr::decode_known;
+use library::FIRST_OWN;
 use mote_model::Ending;
 use std::alloc::Global;
 use std::marker::Model;
 
 /// The cells of a frame's body come after four cells of its own.
 const FRAME_HEADER: u32 = 4;
-
-/// The ids of an image's own methods count from this one.
-const FIRST_METHOD: u16 = 32;
 
 /// A mote: a checked image, and the memory for its run.
 #[derive(Drop)]
@@ -107,5 +105,5 @@ fn main_method(image: &Image) -> &Method
     requires { IsImage image.now }
     ensures { method_of image.now image.now.main ≡ Some result.now }
 {
-    &image.methods.as_slice()[usize::from(image.main - FIRST_METHOD)]
+    &image.methods.as_slice()[usize::from(image.main - FIRST_OWN)]
 }

@@ -4,6 +4,7 @@
 use Rattle.std.specs.Prelude.{ℕ, ℤ, pos, ◌+◌, ◌-◌, ◌+ℤ◌, neg_ℤ, nat_lt, nat_le, Bool, ◌==◌, if◌then◌else◌, List, [], ◌∷◌, Option, Some, None, option_and_then, slice_get, slice_set, replicate, drop, length}
 use Rattle.std.specs.Int.{w32, int_wrap}
 use Rattle.std.specs.Fmt.{signed_decimal}
+use Rattle.library.specs.Classes.{first_own}
 use Rattle.cell_num.specs.declared.conversions.Conv.TheVariants as conv
 use Rattle.cell_num.specs.Cells.{sign_extended, low_cell, high_cell, joined_cells}
 use Rattle.cell_num.specs.Conversions.{converted}
@@ -217,7 +218,7 @@ step_found limits state frame others bytes (Some (insn, size)) = step_insn limit
 
 -- the code of a method by its id
 abbrev pub method_of : Image → ℕ → Option Method
-method_of image id = if nat_lt id 32 then None else slice_get image.methods (id - 32)
+method_of image id = if nat_lt id first_own then None else slice_get image.methods (id - first_own)
 
 abbrev pub code_of : Option Method → List ℕ
 code_of None = []

@@ -11,6 +11,7 @@ returns-in_err-entry-clause-value c =
 
 pub loop-preserved : goal.loop-preserved
 loop-preserved c = record {
+  arrays_are = let pushed : c.push.new.self.items ≡ c.loop.types.items ++ c.in_ok-entry.entry ∷ [] = c.in_ok-push.ensures.items in rw pushed (c.in_ok-note.ensures.arrays c.loop.types.items c.loop.invariant.arrays_are);
   length_is = one_longer c.loop.types.items c.push.new.self.items c.in_ok-entry.entry c.loop.counter c.in_ok-push.ensures.items c.loop.invariant.length_is;
   so_far = let pushed : c.push.new.self.items ≡ c.loop.types.items ++ c.in_ok-entry.entry ∷ [] = c.in_ok-push.ensures.items in rw pushed (goes_on type_at c.args.count c.loop.counter c.loop.types.items c.loop.rest.now c.in_ok-entry.entry c.in_ok-entry.after.now (items_at type_at c.args.count [] c.args.bytes.now) c.loop-test.true (rw c.as_slice.ensures.value at c.in_ok-entry.ensures) c.loop.invariant.so_far);
 }
