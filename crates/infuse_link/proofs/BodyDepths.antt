@@ -7,7 +7,7 @@ use Rattle.std.proofs.lemmas.List.{length-append}
 use Rattle.std.proofs.lemmas.List.Concat.{flat_map-append}
 use Rattle.image_form.specs.declared.record.Image.{Image}
 use Rattle.image_form.specs.declared.record.Method.{Method}
-use Rattle.class_code.specs.declared.insn.SwitchForm.TheVariants as switch
+use Rattle.insn_form.specs.declared.SwitchForm.TheVariants as switch
 use Rattle.jvm_model.specs.Program.{Family, Nop, Const, Load, Store, Inc, Stack, Bin, Negate, Convert, If, IfCmp, Goto, Switch, CallStatic, Return}
 use Rattle.jvm_model.specs.Body.{Body}
 use Rattle.jvm_model.specs.NumberForm.{is_of_form, height_after, targets, is_final, is_in, all_targets, EndsThere, IsBalanced}

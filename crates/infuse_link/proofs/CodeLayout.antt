@@ -2,9 +2,9 @@
 -- each instruction is one.
 use Rattle.std.proofs.Common.{◌≡◌, ℕ, ◌+◌, ◌^◌, ◌≤◌, ◌<◌, true, List, ◌++◌, length, drop, Some, sym, subst, FitsSigned, w16, w32, arith}
 use Rattle.std.specs.List.{AllByRecursion, Contains}
-use Rattle.class_code.specs.declared.insn.SwitchForm.{SwitchForm}
-use Rattle.class_code.specs.declared.insn.SwitchForm.TheVariants as switch
-use Rattle.class_code.specs.declared.insn.SwitchRow.{SwitchRow}
+use Rattle.insn_form.specs.declared.SwitchForm.{SwitchForm}
+use Rattle.insn_form.specs.declared.SwitchForm.TheVariants as switch
+use Rattle.insn_form.specs.declared.SwitchRow.{SwitchRow}
 use Rattle.class_file.specs.declared.record.ClassFile.{ClassFile}
 use Rattle.class_file.specs.declared.record.CodeAttr.{CodeAttr}
 use Rattle.class_pool.specs.Pool.{FitsEntry, EachEntry}

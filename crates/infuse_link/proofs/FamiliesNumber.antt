@@ -14,7 +14,7 @@ use Rattle.cell_num.proofs.IntResults.{applied-fits}
 use Rattle.dialogue.specs.Run.{Step, Goes}
 use Rattle.class_file.specs.declared.record.ClassFile.{ClassFile}
 use Rattle.class_file.specs.declared.record.CodeAttr.{CodeAttr}
-use Rattle.class_code.specs.declared.insn.StackForm.TheVariants as form
+use Rattle.insn_form.specs.declared.StackForm.TheVariants as form
 use Rattle.jvm_model.specs.State.{Value, Whole}
 use Rattle.jvm_model.specs.State as typed_state
 use Rattle.jvm_model.specs.Machine as typed

@@ -2,10 +2,10 @@
 use Rattle.std.proofs.Common.{◌≡◌, ℕ, ℤ, pos, negsuc, ◌+◌, ◌-◌, ◌*◌, ◌≤◌, ◌<◌, Bool, true, false, ◌||◌, cond, List, [], ◌∷◌, map, Some, refl, arith}
 use Rattle.std.specs.List.{AllByRecursion}
 use Rattle.std.proofs.lemmas.Bool.{false≢true}
-use Rattle.class_code.specs.declared.insn.StackForm.TheVariants as form
-use Rattle.class_code.specs.declared.insn.SwitchForm.{SwitchForm}
-use Rattle.class_code.specs.declared.insn.SwitchForm.TheVariants as switch
-use Rattle.class_code.specs.declared.insn.SwitchRow.{SwitchRow}
+use Rattle.insn_form.specs.declared.StackForm.TheVariants as form
+use Rattle.insn_form.specs.declared.SwitchForm.{SwitchForm}
+use Rattle.insn_form.specs.declared.SwitchForm.TheVariants as switch
+use Rattle.insn_form.specs.declared.SwitchRow.{SwitchRow}
 use Rattle.cell_num.specs.declared.conversions.Conv.TheVariants as conv
 use Rattle.image_instr.specs.declared.insn.MInsn.TheVariants as insns
 use Rattle.image_instr.specs.Insn.{IsInsn}

@@ -5,10 +5,10 @@ use Rattle.std.specs.Int.Signed.{le_z}
 use Rattle.std.proofs.lemmas.Int.{ints}
 use Rattle.std.proofs.lemmas.Bool.{and_parts}
 use Rattle.std.proofs.lemmas.List.{length-map}
-use Rattle.class_code.specs.declared.insn.StackForm.TheVariants as form
-use Rattle.class_code.specs.declared.insn.SwitchForm.{SwitchForm}
-use Rattle.class_code.specs.declared.insn.SwitchForm.TheVariants as switch
-use Rattle.class_code.specs.declared.insn.SwitchRow.{SwitchRow}
+use Rattle.insn_form.specs.declared.StackForm.TheVariants as form
+use Rattle.insn_form.specs.declared.SwitchForm.{SwitchForm}
+use Rattle.insn_form.specs.declared.SwitchForm.TheVariants as switch
+use Rattle.insn_form.specs.declared.SwitchRow.{SwitchRow}
 use Rattle.class_code.proofs.Numbers.{IsAbove, Rising, Following, FitsKey, IsSwitch}
 use Rattle.cell_num.specs.declared.conversions.Conv.TheVariants as conv
 use Rattle.image_instr.specs.declared.insn.MInsn.{MInsn}

@@ -1,9 +1,9 @@
 -- The bytes of a family are as many wherever its jumps lead.
 use Rattle.std.proofs.Common.{◌≡◌, ℕ, ◌+◌, ◌*◌, List, [], ◌++◌, length, map, refl, sym, ap, ◌∙◌, arith}
 use Rattle.std.proofs.lemmas.List.{length-map, append-nil}
-use Rattle.class_code.specs.declared.insn.SwitchForm.{SwitchForm}
-use Rattle.class_code.specs.declared.insn.SwitchForm.TheVariants as switch
-use Rattle.class_code.specs.declared.insn.SwitchRow.{SwitchRow}
+use Rattle.insn_form.specs.declared.SwitchForm.{SwitchForm}
+use Rattle.insn_form.specs.declared.SwitchForm.TheVariants as switch
+use Rattle.insn_form.specs.declared.SwitchRow.{SwitchRow}
 use Rattle.image_instr.specs.Insn.{insn_bytes}
 use Rattle.image_instr.proofs.Rows.{size_of_rows, size_of_targets}
 use Rattle.jvm_model.specs.State.{Whole, Null, Name}

@@ -4,10 +4,7 @@ pub mod Steps
 pub mod Sizes
 pub mod Places
 pub mod Written
-pub mod RisingPcs
-pub mod Spreads
-pub mod ExitWays
-pub mod Reaching
+pub mod BodyWays
 pub mod Form
 pub mod FamilySizes
 pub mod CodeLayout

@@ -5,8 +5,7 @@ use Rattle.std.proofs.Math.Seq.{drop-cons}
 use Rattle.std.proofs.lemmas.List.{drop_all}
 use Rattle.std.proofs.lemmas.List.{replicate-append-replicate}
 use Rattle.std.proofs.lemmas.Bool.{false≢true}
-use Rattle.class_code.specs.declared.insn.SwitchRow.{SwitchRow}
-use Rattle.class_file.specs.declared.record.HandlerRow.{HandlerRow}
+use Rattle.insn_form.specs.declared.SwitchRow.{SwitchRow}
 use Rattle.infuse_link.specs.declared.number_insn.NumberInsn.{NumberInsn}
 use Rattle.infuse_link.specs.declared.number_insn.NumberInsn.TheVariants.{Nop}
 
@@ -34,10 +33,6 @@ filled_more xs ys n x e = ap (λ zs. zs ++ x ∷ []) e ∙ append_assoc xs (repl
 -- what stands for a row past the end
 abbrev pub no_row : SwitchRow
 no_row = record { key = pos 0; target = 0 }
-
--- what stands for a row of an exception table past the end
-abbrev pub no_handler : HandlerRow
-no_handler = record { start = 0; end = 0; target = 0; catch_type = 0 }
 
 pub then_ok : {A E : Type 0} {P Q : Type 0} (r : Result A E) → (P → Q) → OnOk r P → OnOk r Q
 then_ok (Ok x) f h = f h

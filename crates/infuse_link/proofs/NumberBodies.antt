@@ -9,7 +9,7 @@ use Rattle.jvm_model.specs.Program.{Family}
 use Rattle.jvm_model.specs.Body.{Body, family_of, families_of}
 use Rattle.jvm_model.specs.NumberForm.{is_of_form}
 use Rattle.infuse_link.specs.NumberInsns.{unless_other, with_prefix, number_body}
-use Rattle.infuse_link.specs.Reach.{RisesFrom}
+use Rattle.code_reach.specs.Reached.{RisesFrom}
 
 some_same : {X : Type 0} {x y : X} → Some x ≡ Some y → x ≡ y
 some_same e = cc

@@ -1,8 +1,8 @@
 -- The first instruction that is reached and outside the form: what the scans of instructions, methods and
 -- classes find.
-use Rattle.std.proofs.Common.{◌≡◌, inl, inr, ℕ, suc, ◌+◌, ◌<◌, ◌≤◌, Bool, true, false, not, ◌||◌, List, [], ◌∷◌, length, drop, get_or, add-one, Option, Some, None, option_map, refl, sym, ap, subst, ◌∙◌}
+use Rattle.std.proofs.Common.{◌≡◌, inl, inr, ℕ, suc, ◌+◌, ◌<◌, ◌≤◌, Bool, true, false, not, ◌&&◌, cond, arith, List, [], ◌∷◌, length, drop, get_or, add-one, Option, Some, None, option_map, refl, sym, ap, subst, ◌∙◌}
 use Rattle.std.specs.Prelude.{Ok}
-use Rattle.std.proofs.lemmas.List.{drop_all}
+use Rattle.std.proofs.lemmas.List.{drop_all, length-map}
 use Rattle.std.proofs.lemmas.Bool.{false≢true}
 use Rattle.class_pool.specs.Pool.{Slots}
 use Rattle.class_file.specs.declared.record.ClassFile.{ClassFile}
@@ -11,15 +11,16 @@ use Rattle.class_file.specs.declared.record.HandlerRow.{HandlerRow}
 use Rattle.class_file.specs.ReadingClass.{class_of}
 use Rattle.class_file.proofs.Whole.{file_again}
 use Rattle.class_code.specs.declared.insn.Insn.{Insn}
-use Rattle.class_code.specs.Code.{Insns, decoded, first_other}
-use Rattle.class_code.proofs.Firsts.{other-passed, other-here, other-none}
+use Rattle.class_code.specs.Code.{Insns, decoded}
+use Rattle.class_code.specs.Flow.{code_ways}
 use Rattle.jvm_model.specs.declared.refusal.Refusal.{Refusal}
 use Rattle.jvm_model.specs.ProgramOf.{insns_in}
 use Rattle.jvm_model.specs.Phases.{record_in}
-use Rattle.jvm_model.specs.Reached.{Ways}
+use Rattle.code_reach.specs.Reached.{Ways, AreFlags, TellReached}
 use Rattle.jvm_model.specs.BuiltForm.{is_plain_insn, unbuilt_at, FirstOf, IfThere, NamesFirst, OutsideInsn, OutsideInsns, OutsideCode, OutsideClass, OutsideFile}
-use Rattle.infuse_link.specs.Sets.{AreRead, is_inside, first_outside}
-use Rattle.infuse_link.specs.Reach.{TellsReached}
+use Rattle.infuse_link.specs.Sets.{AreRead, first_outside}
+use Rattle.infuse_link.proofs.BodyWays.{flags_length}
+use Rattle.infuse_link.proofs.Loops.{prefix}
 use Rattle.infuse_link.proofs.Scans.{from_place}
 
 -- ---- the steps of a scan
@@ -42,54 +43,62 @@ module _ {X : Type 0} (Has : ℕ → X → Option Refusal → Type 0) where
 
 -- ---- instructions
 
-pub is_outside : (reached plain : Bool) → reached ≡ true → plain ≡ false → (not reached || plain) ≡ false
-is_outside true plain is e = e
-is_outside false plain is e = absurd (false≢true is)
+module _ (file member : ℕ) (pool : Slots) (all : Ways) where
+  abbrev Found : ℕ → Insns → Option ℕ → Type 0
+  Found place insns o = FirstOf (OutsideInsn file member pool all) place insns (option_map (unbuilt_at file member) o)
 
-pub plain_inside : (reached plain : Bool) → plain ≡ true → (not reached || plain) ≡ true
-plain_inside true plain e = e
-plain_inside false plain e = refl
-
-pub unreached_inside : (reached plain : Bool) → reached ≡ false → (not reached || plain) ≡ true
-unreached_inside reached plain e = ap (λ b. not b || plain) e
-
-outside_parts : (reached plain : Bool) → (not reached || plain) ≡ false → (reached ≡ true) × (plain ≡ false)
-outside_parts true plain e = (refl, e)
-outside_parts false plain e = absurd (false≢true (sym e))
-
-inside_plain : (reached plain : Bool) → (not reached || plain) ≡ true → reached ≡ true → plain ≡ true
-inside_plain true plain e is = e
-inside_plain false plain e is = absurd (false≢true is)
-
-module _ (file member : ℕ) (pool : Slots) (ways : Ways) (reached : ℕ → Bool) (tells : TellsReached ways reached) where
-  abbrev refusal : ℕ × Insn → Refusal
-  refusal x = unbuilt_at file member x.0
-
-  abbrev Found : ℕ → Insns → Option (ℕ × Insn) → Type 0
-  Found place insns o = FirstOf (OutsideInsn file member pool ways) place insns (option_map refusal o)
-
-  tested_first : (place : ℕ) (insns : Insns) → Found place insns (first_other (is_inside pool reached) insns)
-  tested_first place [] = subst (Found place []) (sym (other-none (is_inside pool reached))) tt
-  tested_first place (x ∷ insns) =
-      let test = is_inside pool reached in
-      elim (test x) as (λ b. (test x ≡ b → Found place (x ∷ insns) (first_other test (x ∷ insns)))) [
-        | true ↦ λ passes.
-            subst (Found place (x ∷ insns)) (sym (other-passed test x insns passes))
-            (first_passed (OutsideInsn file member pool ways) place x insns (option_map refusal (first_other test insns))
-            (λ is. inside_plain (reached x.0) (is_plain_insn pool x.1) passes ((tells x.0).1 is)) (tested_first (suc place) insns))
-        | false ↦ λ fails.
-            let parts = outside_parts (reached x.0) (is_plain_insn pool x.1) fails in
-            subst (Found place (x ∷ insns)) (sym (other-here test x insns fails)) (inl ((tells x.0).0 parts.0, parts.1, refl))
+  -- what is found by flags that tell what is reached is the first
+  tested_first : (rows : List HandlerRow) (place : ℕ) (insns : Insns) (flags : List Bool) → AreFlags all (code_ways rows insns) flags → Found place insns (first_outside pool flags insns)
+  unfolding first_outside
+  tested_first rows place [] [] are = tt
+  tested_first rows place [] (flag ∷ flags) are = absurd are
+  tested_first rows place (x ∷ insns) [] are = absurd are
+  tested_first rows place (x ∷ insns) (true ∷ flags) are =
+      elim (is_plain_insn pool x.1) as (λ b. (is_plain_insn pool x.1 ≡ b → Found place (x ∷ insns) (cond (not b) (Some x.0) (first_outside pool flags insns)))) [
+        | true ↦ λ plain. first_passed (OutsideInsn file member pool all) place x insns (option_map (unbuilt_at file member) (first_outside pool flags insns)) (λ is. plain) (tested_first rows (suc place) insns flags are.1)
+        | false ↦ λ other. inl (are.0.0 refl, other, refl)
       ] refl
+  tested_first rows place (x ∷ insns) (false ∷ flags) are =
+      first_passed (OutsideInsn file member pool all) place x insns (option_map (unbuilt_at file member) (first_outside pool flags insns)) (λ is. absurd (false≢true (are.0.1 is))) (tested_first rows (suc place) insns flags are.1)
 
-  pcs_map : (o : Option (ℕ × Insn)) → option_map (λ (x : ℕ × Insn). unbuilt_at file member x.0) o ≡ option_map (unbuilt_at file member) (option_map (λ (x : ℕ × Insn). x.0) o)
-  pcs_map None = refl
-  pcs_map (Some x) = refl
+-- there is a flag for each instruction
+pub insn_flags : (rows : List HandlerRow) (insns : Insns) (flags : List Bool) → TellReached (code_ways rows insns) flags → length flags ≡ length insns
+insn_flags rows insns flags tell = flags_length (code_ways rows insns) (code_ways rows insns) flags tell ∙ simp length-map
 
-  -- what is found by a test that tells what is reached is the first
-  pub tested_outside : (insns : Insns) (found : Option ℕ) → found ≡ first_outside pool reached insns → FirstOf (OutsideInsn file member pool ways) 0 insns (option_map (unbuilt_at file member) found)
-  tested_outside insns found is =
-      subst (FirstOf (OutsideInsn file member pool ways) 0 insns) (pcs_map (first_other (is_inside pool reached) insns) ∙ ap (option_map (unbuilt_at file member)) (sym is)) (tested_first 0 insns)
+-- what is found by flags is what the set names first
+pub named_first : (file member : ℕ) (pool : Slots) (rows : List HandlerRow) (insns : Insns) (flags : List Bool) (found : Option ℕ) → TellReached (code_ways rows insns) flags → found ≡ first_outside pool flags insns
+    → OutsideInsns file member pool rows insns (option_map (unbuilt_at file member) found)
+named_first file member pool rows insns flags found tell is =
+    subst (λ (o : Option ℕ). OutsideInsns file member pool rows insns (option_map (unbuilt_at file member) o)) (sym is) (tested_first file member pool (code_ways rows insns) rows 0 insns flags tell)
+
+-- ---- the steps of a search by flags
+
+pub and_plain : (flag plain : Bool) → plain ≡ true → (flag && not plain) ≡ false
+and_plain true plain e = ap not e
+and_plain false plain e = refl
+
+pub and_unset : (flag plain : Bool) → flag ≡ false → (flag && not plain) ≡ false
+and_unset flag plain e = ap (λ b. b && not plain) e
+
+module _ (pool : Slots) (flags : List Bool) (insns : Insns) (same : length flags ≡ length insns) (i : ℕ) where
+  outside_at : (x : ℕ × Insn) → i < length insns → x ≡ get_or insns i x
+      → first_outside pool (drop i flags) (drop i insns) ≡ cond (get_or flags i false && not (is_plain_insn pool x.1)) (Some x.0) (first_outside pool (drop (i + 1) flags) (drop (i + 1) insns))
+  unfolding first_outside
+  outside_at x lt is =
+      ap (λ (list : List Bool). first_outside pool list (drop i insns)) (prefix flags i false (omega (arith, lt, same)))
+      ∙ ap (λ (list : Insns). first_outside pool (get_or flags i false ∷ drop (i + 1) flags) list) (prefix insns i x lt ∙ ap (λ (y : ℕ × Insn). y ∷ drop (i + 1) insns) (sym is))
+
+  pub outside_here : (x : ℕ × Insn) → i < length insns → x ≡ get_or insns i x → get_or flags i false ≡ true → is_plain_insn pool x.1 ≡ false → Some x.0 ≡ first_outside pool (drop i flags) (drop i insns)
+  outside_here x lt is set other = sym (outside_at x lt is ∙ ap (λ b. cond (b && not (is_plain_insn pool x.1)) (Some x.0) (first_outside pool (drop (i + 1) flags) (drop (i + 1) insns))) set
+      ∙ ap (λ b. cond (not b) (Some x.0) (first_outside pool (drop (i + 1) flags) (drop (i + 1) insns))) other)
+
+  pub outside_later : (x : ℕ × Insn) → i < length insns → x ≡ get_or insns i x → (get_or flags i false && not (is_plain_insn pool x.1)) ≡ false
+      → first_outside pool (drop (i + 1) flags) (drop (i + 1) insns) ≡ first_outside pool (drop i flags) (drop i insns)
+  outside_later x lt is passed = sym (outside_at x lt is ∙ ap (λ b. cond b (Some x.0) (first_outside pool (drop (i + 1) flags) (drop (i + 1) insns))) passed)
+
+  pub outside_none : length insns ≤ i → None ≡ first_outside pool (drop i flags) (drop i insns)
+  unfolding first_outside
+  outside_none le = sym (ap (λ (list : List Bool). first_outside pool list (drop i insns)) (drop_all i flags (omega (arith, le, same))))
 
 -- ---- what is read
 

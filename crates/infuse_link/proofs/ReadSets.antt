@@ -1,5 +1,5 @@
 -- Sets whose files are read: what the records say is what the files say.
-use Rattle.std.proofs.Common.{◌≡◌, ℕ, suc, List, [], ◌∷◌, ◌++◌, length, Option, None, option_and_then, Result, refl, ap, ◌∙◌}
+use Rattle.std.proofs.Common.{◌≡◌, ℕ, suc, List, [], ◌∷◌, ◌++◌, length, Option, Some, None, option_map, option_and_then, Result, refl, sym, ap, subst, ◌∙◌}
 use Rattle.std.specs.List.{AllByRecursion}
 use Rattle.std.specs.Option.{option_or}
 use Rattle.class_file.specs.declared.record.ClassFile.{ClassFile}
@@ -9,6 +9,8 @@ use Rattle.class_file.specs.ReadingClass.{class_of}
 use Rattle.class_file.proofs.Whole.{file_again}
 use Rattle.jvm_model.specs.declared.refusal.Refusal.{Refusal}
 use Rattle.jvm_model.specs.Phases.{first_refusal, unless_read, reading_refusal, record_in}
+use Rattle.jvm_model.specs.BuiltForm.{IfThere}
+use Rattle.jvm_model.specs.ClosedSet.{records_of}
 use Rattle.infuse_link.specs.Sets.{AreRead, IsRecord}
 
 -- one more file, and its record
@@ -48,3 +50,16 @@ none_unread place [] (class ∷ classes) all = absurd all
 none_unread place (bytes ∷ files) [] all = absurd all
 none_unread place (bytes ∷ files) (class ∷ classes) all =
     ap (λ (r : Option Refusal). option_or r (first_refusal reading_refusal (suc place) files)) (read_passes place bytes class all.0) ∙ none_unread (suc place) files classes all.1
+
+-- the records of the files are these
+records_are : (files : List (List ℕ)) (classes : List ClassFile) → AreRead files classes → records_of files ≡ Some classes
+records_are [] [] all = refl
+records_are [] (class ∷ classes) all = absurd all
+records_are (bytes ∷ files) [] all = absurd all
+records_are (bytes ∷ files) (class ∷ classes) all =
+    ap (λ (r : Result ClassFile ReadRefusal). option_and_then (λ file. option_map (λ more. file ∷ more) (records_of files)) (record_in r)) (file_again bytes class all.0)
+    ∙ ap (option_map (λ (more : List ClassFile). class ∷ more)) (records_are files classes all.1)
+
+-- what the records are refused for is what the files are refused for
+pub classes_read : (Has : List ClassFile → Option Refusal → Type 0) (files : List (List ℕ)) (classes : List ClassFile) (found : Option Refusal) → AreRead files classes → Has classes found → IfThere Has (records_of files) found
+classes_read Has files classes found all is = subst (λ (o : Option (List ClassFile)). IfThere Has o found) (sym (records_are files classes all)) is

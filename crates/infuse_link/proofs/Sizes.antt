@@ -3,8 +3,8 @@ use Rattle.std.proofs.Common.{◌≡◌, ℕ, ◌+◌, ◌*◌, ◌<◌, ◌^◌
 use Rattle.std.specs.List.{flat_map, AllByRecursion}
 use Rattle.std.proofs.lemmas.List.{append-nil}
 use Rattle.image_instr.specs.Insn.{row_bytes, target_bytes, insn_bytes, HasRowRanges}
-use Rattle.class_code.specs.declared.insn.SwitchForm.TheVariants.{Lookup, Table}
-use Rattle.class_code.specs.declared.insn.SwitchRow.{SwitchRow}
+use Rattle.insn_form.specs.declared.SwitchForm.TheVariants.{Lookup, Table}
+use Rattle.insn_form.specs.declared.SwitchRow.{SwitchRow}
 use Rattle.jvm_model.specs.Program.{Switch}
 use Rattle.jvm_model.specs.Expansion.{moved_row, size_of, switch_insn}
 

@@ -1,5 +1,6 @@
 -- What is answered for a set is its verdict.
-use Rattle.std.proofs.Common.{inl, inr, ◌≡◌, ℕ, ◌<◌, ◌≤◌, List, [], ◌∷◌, length, get_or, Some, None, refl, sym, ap, ◌∙◌, subst, arith}
+use Rattle.std.proofs.Common.{inl, inr, ◌≡◌, ℕ, ◌≤◌, nat_lt, List, [], ◌∷◌, length, slice_get, Some, None, refl, sym, ap, ◌∙◌, subst, arith}
+use Rattle.std.proofs.lemmas.Bool.{cases_lt, cond-true, lt-ltb}
 use Rattle.std.proofs.lemmas.Option.{none-some, same_Some}
 use Rattle.std.specs.Prelude.{Result, Ok, Err, IfOk, IfErr}
 use Rattle.class_file.specs.declared.record.ClassFile.{ClassFile}
@@ -7,6 +8,8 @@ use Rattle.class_file.specs.declared.record.CodeAttr.{CodeAttr}
 use Rattle.class_file.specs.Relation.{IsClassFile}
 use Rattle.class_file.specs.OneMain.{HasOneMainRecord, IsOneMain}
 use Rattle.class_file.proofs.Whole.{one_record}
+use Rattle.class_tree.specs.declared.refusal.TreeRefusal.TheVariants.{TooMany}
+use Rattle.class_tree.specs.Scan.{saturated as tree_saturated}
 use Rattle.image_form.specs.declared.record.Image.{Image}
 use Rattle.jvm_model.specs.declared.refusal.Cause.TheVariants as cause
 use Rattle.jvm_model.specs.declared.refusal.Refusal.{Refusal}
@@ -14,6 +17,9 @@ use Rattle.jvm_model.specs.Body.{Body}
 use Rattle.jvm_model.specs.NumberForm.{HasNumberMain}
 use Rattle.jvm_model.specs.Phases.{SetSize, first_refusal, class_refusal}
 use Rattle.jvm_model.specs.Linked.{IsNumberFile, Linked, refusal_of_main}
+use Rattle.jvm_model.specs.ClosedSet.{ClosedClasses}
+use Rattle.jvm_model.specs.Linking.{Linking, Members}
+use Rattle.jvm_model.specs.Entry.{Entering, EntryPoint}
 use Rattle.jvm_model.specs.BuiltForm.{BuiltForm}
 use Rattle.jvm_model.specs.FrameSize.{FrameSize, most_frame_cells}
 use Rattle.jvm_model.specs.CodeLength.{CodeLength}
@@ -26,8 +32,8 @@ use Rattle.infuse_link.specs.declared.stop.Stop.{Stop}
 use Rattle.infuse_link.specs.declared.stop.Stop.TheVariants.{Unbuilt, FrameTooLarge, CodeTooLong, Memory}
 use Rattle.infuse_link.specs.Infused.{Gives}
 use Rattle.infuse_link.specs.ClassImage.{IsClassImage, StopsFor, RefusedOrMemory}
-use Rattle.infuse_link.specs.Sets.{AreRead, IsOneClass, SetStopsFor, RefusesFor}
-use Rattle.infuse_link.proofs.ReadSets.{scan_same, none_unread}
+use Rattle.infuse_link.specs.Sets.{AreRead, IsUnlinked, IsOneClass, SetStopsFor, RefusesFor}
+use Rattle.infuse_link.proofs.ReadSets.{scan_same, none_unread, classes_read}
 use Rattle.infuse_link.proofs.OutsideFirsts.{named_read}
 
 -- ---- the one file of a set
@@ -51,8 +57,8 @@ number_of files class one form code body main = record { class_file = record { c
 
 -- ---- what was read is infused or refused
 
-pub set_infused : (files : List (List ℕ)) (classes : List ClassFile) (image : Image) → AreRead files classes → IsOneClass classes (λ class. IsClassImage class image) → IsImageOf files image
-set_infused files classes image read made =
+pub set_infused : (files : List (List ℕ)) (classes : List ClassFile) (image : Image) → AreRead files classes → ClosedClasses classes None → Linking classes None → Entering classes None → IsOneClass classes (λ class. IsClassImage class image) → IsImageOf files image
+set_infused files classes image read closed linking entering made =
     let one = file_of files classes made.class read made.classes_are in
     let number : IsNumberSet files made.class made.has.code made.has.body =
     record {
@@ -62,7 +68,8 @@ set_infused files classes image read made =
       frame_fits = made.has.frame_fits;
       code_fits = made.has.code_fits;
     } in
-    record { accepted = accepted_as files made.class made.has.code made.has.body number; linked = linked_as files made.class made.has.code made.has.body number; image_is = made.has.image_is }
+    let passes = accepted_as files made.class made.has.code made.has.body number in
+    record { accepted = passes (classes_read ClosedClasses files classes None read closed) (classes_read Linking files classes None read linking) (classes_read Entering files classes None read entering); linked = linked_as files made.class made.has.code made.has.body number; image_is = made.has.image_is }
 
 -- a file of the number form is the one class
 class_is : (bytes : List ℕ) (files : List (List ℕ)) (classes : List ClassFile) (file : ClassFile) → files ≡ bytes ∷ [] → IsOneMain bytes file → AreRead files classes → classes ≡ file ∷ []
@@ -81,10 +88,23 @@ none_of files classes read stops linked =
 abbrev linked_class : (files : List (List ℕ)) (class : ClassFile) → OneFile files class → HasOneMainRecord class → (code : CodeAttr) (body : Body) → HasNumberMain class code body → Linked files
 linked_class files class one form code body main = record { bytes = one.bytes; files_are = one.files_are; file = class; code = code; body = body; number_file = number_of files class one form code body main }
 
--- the early phases pass, and the set has no image for this reason
-module _ (files : List (List ℕ)) (classes : List ClassFile) (size : SetSize files None) (read : AreRead files classes) (coded : first_refusal class_refusal 0 classes ≡ None) where
+-- the phases up to that of a closed set pass
+module _ (files : List (List ℕ)) (classes : List ClassFile) (size : SetSize files None) (read : AreRead files classes) (coded : first_refusal class_refusal 0 classes ≡ None) (closed : ClosedClasses classes None) where
+  -- a refusal that comes after the phases that are tested on classes that need not be closed
+  behind : (why : Refusal) → FirstRefusal (Members ∷ EntryPoint ∷ BuiltForm ∷ FrameSize ∷ CodeLength ∷ []) files (Some why) → RefusedOrMemory files why
+  behind why fails = inr (inr (size, inr (none_unread 0 files classes read, inr (scan_same class_refusal 0 files classes read ∙ coded, inr (classes_read ClosedClasses files classes None read closed, fails)))))
+
+  -- a closed set whose classes do not stand together, or that has no entry, is refused so
+  pub set_unlinked : (refusal : Refusal) → IsUnlinked classes refusal → RefusedOrMemory files refusal
+  set_unlinked refusal (inl unlinked) = behind refusal (inl (classes_read Linking files classes (Some refusal) read unlinked))
+  set_unlinked refusal (inr none) = behind refusal (inr (classes_read Linking files classes None read none.0, inl (classes_read Entering files classes (Some refusal) read none.1)))
+
+-- all phases before the form pass, and the set has no image for this reason
+module _ (files : List (List ℕ)) (classes : List ClassFile) (size : SetSize files None) (read : AreRead files classes) (coded : first_refusal class_refusal 0 classes ≡ None) (closed : ClosedClasses classes None) (linking : Linking classes None) (entering : Entering classes None) where
   late : (why : Refusal) → FirstRefusal (BuiltForm ∷ FrameSize ∷ CodeLength ∷ []) files (Some why) → RefusedOrMemory files why
-  late why fails = inr (inr (size, inr (none_unread 0 files classes read, inr (scan_same class_refusal 0 files classes read ∙ coded, fails))))
+  late why fails =
+      behind files classes size read coded closed why
+      (inr (classes_read Linking files classes None read linking, inr (classes_read Entering files classes None read entering, fails)))
 
   pub set_refused : (why : Stop) (refusal : Refusal) → SetStopsFor classes why → RefusesFor classes why refusal → RefusedOrMemory files refusal
   set_refused Unbuilt refusal stops (inl memory) = inl memory
@@ -106,16 +126,29 @@ module _ (files : List (List ℕ)) (classes : List ClassFile) (size : SetSize fi
       ))
   set_refused Memory refusal stops is = inl (ap (λ (r : Refusal). r.cause) is)
 
+-- a set whose classes are no closed set is refused so
+pub set_unclosed : (files : List (List ℕ)) (classes : List ClassFile) (refusal : Refusal) → SetSize files None → AreRead files classes → first_refusal class_refusal 0 classes ≡ None → ClosedClasses classes (Some refusal) → RefusedOrMemory files refusal
+set_unclosed files classes refusal size read coded unclosed =
+    inr (inr (size, inr (none_unread 0 files classes read, inr (scan_same class_refusal 0 files classes read ∙ coded, inl (classes_read ClosedClasses files classes (Some refusal) read unclosed)))))
+
+-- a closed set is not too large
+pub few_classes : (classes : List ClassFile) → ClosedClasses classes None → length classes ≤ 512
+few_classes classes closed =
+    elim (cases_lt 512 (length classes)) [
+      | inl less ↦ absurd (none-some (TooMany (tree_saturated (length classes))) (closed.0 ∙ cond-true (nat_lt 512 (length classes)) (Some (TooMany (tree_saturated (length classes)))) None (lt-ltb 512 (length classes) less)))
+      | inr most ↦ most
+    ]
+
 -- ---- one class
 
 list_same : {x y : ClassFile} → x ∷ [] ≡ y ∷ [] → x ≡ y
 list_same e = cc
 
 -- the one item of a list
-pub only_item : (classes : List ClassFile) (class : ClassFile) → 1 ≤ length classes → length classes < 2 → class ≡ get_or classes 0 class → classes ≡ class ∷ []
-only_item [] class some few is = absurd (omega (arith, some))
-only_item (other ∷ []) class some few is = ap (λ (c : ClassFile). c ∷ []) (sym is)
-only_item (other ∷ second ∷ classes) class some few is = absurd (omega (arith, few))
+pub only_item : (classes : List ClassFile) (class : ClassFile) → length classes ≡ 1 → slice_get classes 0 ≡ Some class → classes ≡ class ∷ []
+only_item [] class one is = absurd (none-some class is)
+only_item (other ∷ []) class one is = ap (λ (c : ClassFile). c ∷ []) (same_Some other class is)
+only_item (other ∷ second ∷ classes) class one is = absurd (omega (arith, one))
 
 -- an error for one reason is one for another
 pub err_for : {X Y : Type 0} (P Q : Y → Type 0) (r : Result X Y) → ((y : Y) → P y → Q y) → IfErr r P → IfErr r Q

@@ -2,8 +2,6 @@ pub mod Infused
 pub mod RunsAlike
 pub mod NumberInsns
 pub mod Tests
-pub mod Exits
-pub mod Reach
 pub mod Offsets
 pub mod ClassImage
 pub mod Sets

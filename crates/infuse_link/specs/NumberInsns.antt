@@ -1,12 +1,13 @@
 -- The instructions of the number form as the infuser keeps them, and the families that they are.
 use Rattle.std.specs.Prelude.{◌≡◌, ℕ, if◌then◌else◌, List, [], ◌∷◌, ◌++◌, map, Option, Some, None, option_map, option_and_then, Result, Ok, Err}
-use Rattle.class_code.specs.declared.insn.StackForm.TheVariants as form
+use Rattle.insn_form.specs.declared.StackForm.TheVariants as form
 use Rattle.class_code.specs.Code.{Insns}
 use Rattle.class_pool.specs.Pool.{Slots}
+use Rattle.code_reach.specs.Reached.{Way}
 use Rattle.jvm_model.specs.State.{Whole}
 use Rattle.jvm_model.specs.Program as program
 use Rattle.jvm_model.specs.Body.{Body, family_of}
-use Rattle.jvm_model.specs.NumberForm.{is_of_form}
+use Rattle.jvm_model.specs.NumberForm.{is_of_form, family_way}
 use Rattle.infuse_link.specs.declared.number_insn.Native.{Native}
 use Rattle.infuse_link.specs.declared.number_insn.Native.TheVariants as native
 use Rattle.infuse_link.specs.declared.number_insn.NumberInsn.{NumberInsn}
@@ -36,6 +37,10 @@ meant (insns.Goto target) = program.Goto target
 meant (insns.Switch form default rows) = program.Switch form rows.now default
 meant (insns.Call native) = program.CallStatic (program.OfLibrary (native_meant native))
 meant insns.Return = program.Return
+
+-- where an instruction leads
+abbrev pub number_way : NumberInsn → Way
+number_way insn = family_way (meant insn)
 
 -- instructions of the form, each with its pc
 abbrev pub NumberInsns : Type 0

@@ -1,8 +1,7 @@
 -- The records of the files of a set, and why a set of records has no image.
-use Rattle.std.specs.Prelude.{◌≡◌, ◌⊎◌, ℕ, Bool, not, ◌||◌, List, [], ◌∷◌, Option, Some, None, option_map, Result, Ok, Err}
+use Rattle.std.specs.Prelude.{◌≡◌, ◌⊎◌, ℕ, Bool, not, ◌&&◌, if◌then◌else◌, List, [], ◌∷◌, Option, Some, None, Result, Ok, Err}
 use Rattle.class_pool.specs.Pool.{Slots}
-use Rattle.class_code.specs.declared.insn.Insn.{Insn}
-use Rattle.class_code.specs.Code.{Insns, first_other}
+use Rattle.class_code.specs.Code.{Insns}
 use Rattle.class_file.specs.declared.record.ClassFile.{ClassFile}
 use Rattle.class_file.specs.declared.record.CodeAttr.{CodeAttr}
 use Rattle.class_file.specs.Relation.{IsClassFile}
@@ -17,6 +16,8 @@ use Rattle.jvm_model.specs.Body.{Body}
 use Rattle.jvm_model.specs.NumberForm.{HasNumberMain}
 use Rattle.jvm_model.specs.BuiltForm.{is_plain_insn, NamesFirst, OutsideClass}
 use Rattle.jvm_model.specs.Linked.{refusal_of_main}
+use Rattle.jvm_model.specs.Linking.{Linking}
+use Rattle.jvm_model.specs.Entry.{Entering}
 use Rattle.infuse_link.specs.declared.stop.Stop.{Stop}
 use Rattle.infuse_link.specs.declared.stop.Stop.TheVariants.{Unbuilt, FrameTooLarge, CodeTooLong, Memory}
 use Rattle.infuse_link.specs.ClassImage.{HasLargeMain, HasLongMain}
@@ -30,6 +31,10 @@ AreRead _ _ = ⊥
 -- some bytes are a class file with this record
 abbrev pub IsRecord : ClassFile → Type 0
 IsRecord class = (bytes : List ℕ) × IsClassFile bytes class
+
+-- the classes do not stand together and are refused so, or they do and have no entry and are refused so
+abbrev pub IsUnlinked : List ClassFile → Refusal → Type 0
+IsUnlinked classes why = Linking classes (Some why) ⊎ (Linking classes None × Entering classes (Some why))
 
 -- there is one class, it has the form of one main, and P holds of it
 pub record IsOneClass (classes : List ClassFile) (P : ClassFile → Type 0) : Type 0 where
@@ -45,13 +50,11 @@ SetStopsFor classes (FrameTooLarge cells) = IsOneClass classes (λ class. HasLar
 SetStopsFor classes (CodeTooLong bytes) = IsOneClass classes (λ class. HasLongMain class bytes)
 SetStopsFor classes Memory = Unit {0}
 
--- the instruction is not in the set, or it is of the form
-abbrev pub is_inside : Slots → (ℕ → Bool) → ℕ × Insn → Bool
-is_inside pool reached x = not (reached x.0) || is_plain_insn pool x.1
-
--- the pc of the first of these instructions that is in the set and outside the form
-abbrev pub first_outside : Slots → (ℕ → Bool) → Insns → Option ℕ
-first_outside pool reached insns = option_map (λ x. x.0) (first_other (is_inside pool reached) insns)
+-- the pc of the first of these instructions whose flag is set and that is outside the form
+unfoldable pub first_outside : Slots → List Bool → Insns → Option ℕ
+first_outside pool [] insns = None
+first_outside pool (flag ∷ flags) [] = None
+first_outside pool (flag ∷ flags) (x ∷ insns) = if flag && not (is_plain_insn pool x.1) then Some x.0 else first_outside pool flags insns
 
 -- the refusal of classes that have no image for this reason, or of want of memory
 abbrev pub RefusesFor : List ClassFile → Stop → Refusal → Type 0

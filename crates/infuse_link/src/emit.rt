@@ -77,17 +77,17 @@ fn constant(number: i32) -> MInsn
 }
 
 /// Appends a conversion: the operand's high cell goes, and its low cell is read again.
-fn conversion(conv: Conv, out: &mut Vec<u8>) -> Result<(), AllocError>
+fn conversion(alloc: Global, conv: Conv, out: &mut Vec<u8>) -> Result<(), AllocError>
     ensures { OnOk result (out.new.items ≡ out.old.items ++ flat_map expansion.emitted_bytes (expansion.conversion conv)) }
 {
-    encode(MInsn::Pop { count: 1 }, &[], out)?;
+    encode(alloc, MInsn::Pop { count: 1 }, &[], out)?;
     match conv {
         Conv::Byte => {
-            encode(MInsn::Sb, &[], out)?;
-            encode(MInsn::Sx, &[], out)
+            encode(alloc, MInsn::Sb, &[], out)?;
+            encode(alloc, MInsn::Sx, &[], out)
         }
-        Conv::Short => encode(MInsn::Sx, &[], out),
-        Conv::Char => encode(MInsn::Zx, &[], out),
+        Conv::Short => encode(alloc, MInsn::Sx, &[], out),
+        Conv::Char => encode(alloc, MInsn::Zx, &[], out),
     }
 }
 
@@ -123,6 +123,7 @@ fn low_key(rows: &[SwitchRow]) -> i32
 /// Appends a switch with the offset of its default and its rows, which are given with their pcs and
 /// with their offsets.
 fn switch(
+    alloc: Global,
     form: SwitchForm,
     default: u16,
     rows: &[SwitchRow],
@@ -139,7 +140,7 @@ fn switch(
                 default,
                 count: rows.len() as u16,
             };
-            encode(insn, moved, out)
+            encode(alloc, insn, moved, out)
         }
         SwitchForm::Table => {
             let insn = MInsn::Table {
@@ -148,7 +149,7 @@ fn switch(
                 low: low_key(rows),
                 count: rows.len() as u16,
             };
-            encode(insn, moved, out)
+            encode(alloc, insn, moved, out)
         }
     }
 }
@@ -166,8 +167,9 @@ fn emit(
 {
     match insn {
         NumberInsn::Nop => Ok(()),
-        NumberInsn::Const(number) => encode(constant(number), &[], out),
+        NumberInsn::Const(number) => encode(alloc, constant(number), &[], out),
         NumberInsn::Load(local) => encode(
+            alloc,
             MInsn::Load {
                 kind: Kind::Two,
                 local: slots.first(local) as u16,
@@ -176,6 +178,7 @@ fn emit(
             out,
         ),
         NumberInsn::Store(local) => encode(
+            alloc,
             MInsn::Store {
                 kind: Kind::Two,
                 local: slots.first(local) as u16,
@@ -184,6 +187,7 @@ fn emit(
             out,
         ),
         NumberInsn::Inc { local, amount } => encode(
+            alloc,
             MInsn::Inc {
                 width: Width::Two,
                 local: slots.first(local) as u16,
@@ -192,8 +196,9 @@ fn emit(
             &[],
             out,
         ),
-        NumberInsn::Pop => encode(MInsn::Pop { count: 2 }, &[], out),
+        NumberInsn::Pop => encode(alloc, MInsn::Pop { count: 2 }, &[], out),
         NumberInsn::Bin(op) => encode(
+            alloc,
             MInsn::Bin {
                 width: Width::Two,
                 operation: operation_of(op),
@@ -201,9 +206,10 @@ fn emit(
             &[],
             out,
         ),
-        NumberInsn::Negate => encode(MInsn::Neg { width: Width::Two }, &[], out),
-        NumberInsn::Convert(conv) => conversion(conv, out),
+        NumberInsn::Negate => encode(alloc, MInsn::Neg { width: Width::Two }, &[], out),
+        NumberInsn::Convert(conv) => conversion(alloc, conv, out),
         NumberInsn::If(cond, target) => encode(
+            alloc,
             MInsn::Jz {
                 width: Width::Two,
                 condition: condition_of(cond),
@@ -213,6 +219,7 @@ fn emit(
             out,
         ),
         NumberInsn::IfCmp(cond, target) => encode(
+            alloc,
             MInsn::JCmp {
                 width: Width::Two,
                 condition: condition_of(cond),
@@ -222,6 +229,7 @@ fn emit(
             out,
         ),
         NumberInsn::Goto(target) => encode(
+            alloc,
             MInsn::Goto {
                 target: offsets.at(target) as u16,
             },
@@ -234,16 +242,17 @@ fn emit(
             rows,
         } => {
             let moved = moved_rows(alloc, offsets, rows)?;
-            switch(form, offsets.at(default) as u16, rows, &moved, out)
+            switch(alloc, form, offsets.at(default) as u16, rows, &moved, out)
         }
         NumberInsn::Call(native) => encode(
+            alloc,
             MInsn::CallS {
                 method: native_id(native),
             },
             &[],
             out,
         ),
-        NumberInsn::Return => encode(MInsn::Ret { result: None }, &[], out),
+        NumberInsn::Return => encode(alloc, MInsn::Ret { result: None }, &[], out),
     }
 }
 

@@ -1,9 +1,9 @@
 //! From a set of class files to its image.
 
-ghost use Rattle.std.specs.Prelude.{◌≡◌, ℕ, ◌≤◌, ◌⊎◌, true, List, [], ◌∷◌, map, Some, None, Ok, Err, IfOk, IfErr};
+ghost use Rattle.std.specs.Prelude.{◌≡◌, ℕ, ◌≤◌, ◌⊎◌, true, List, [], ◌∷◌, map, length, Some, None, Ok, Err, IfOk, IfErr, IfSome, IsNone};
 ghost use Rattle.std.specs.List.{AllByRecursion};
 ghost use Rattle.std.specs.Option.{option_copied};
-ghost use Rattle.class_file.specs.Rules.{is_abstract};
+ghost use Rattle.class_file.specs.OneMain.{HasOneMainRecord};
 ghost use Rattle.class_file.specs.declared.record.ClassFile.{ClassFile as Record};
 ghost use Rattle.class_file.specs.declared.record.CodeAttr.{CodeAttr as MainCode};
 ghost use Rattle.image_form.specs.declared.record.Image.{Image as SetImage};
@@ -22,23 +22,26 @@ ghost use Rattle.infuse_link.specs.declared.stop.Stop.TheVariants.{Memory};
 ghost use Rattle.infuse_link.specs.Infused.{Gives};
 ghost use Rattle.infuse_link.specs.Sets.{IsRecord, IsOneClass, SetStopsFor, RefusesFor};
 ghost use Rattle.infuse_link.specs.NumberInsns.{body_meant};
-ghost use Rattle.infuse_link.specs.Reach.{RisesFrom};
+ghost use Rattle.code_reach.specs.Reached.{RisesFrom};
 ghost use Rattle.infuse_link.specs.ClassImage.{IsFile, HasBody, IsClassImage, StopsFor, FormStopsFor, RefusedOrMemory, only_code};
 
 use crate::body::{Placed, arrivals_of, ends, heights, locals_below, number_body};
 use crate::emit::emitted;
+use crate::linking::test_linking;
 use crate::locals::{are_written, slots_of};
 use crate::offsets::offsets_of;
 use crate::outside::unbuilt;
 use crate::reach::are_reached;
-use crate::sets::{read_files, test_classes, test_size};
+use crate::sets::{closed_set, file_at, read_files, test_classes, test_size};
 use crate::stop::Stop;
 use class_code::{CodeRefusal, decode};
-use class_file::{ClassFile, CodeAttr, is_one_main};
+use class_file::{ClassFile, CodeAttr, is_abstract, is_one_main};
+use class_tree::ClassSet;
 use image_form::{ClassEntry, Image, Method, TypeEntry};
 use image_instr::Sig;
 use item_list::Items;
 use jvm_model::{Cause, Refusal};
+use library::FIRST_OWN;
 use std::alloc::Global;
 
 /// The most cells of a frame.
@@ -83,21 +86,39 @@ fn infuse_sized(alloc: Global, files: &[Vec<u8>]) -> Result<Image, Refusal>
 {
     let classes = read_files(alloc, files)?;
     test_classes(alloc, classes.as_slice())?;
-    match infuse_classes(alloc, classes.as_slice()) {
+    let set = closed_set(alloc, classes)?;
+    test_linking(alloc, &set)?;
+    match infuse_closed(alloc, &set) {
         Ok(image) => Ok(image),
-        Err(why) => Err(refusal_for(alloc, classes.as_slice(), why)),
+        Err(why) => Err(refusal_for(alloc, &set, why)),
     }
 }
 
-/// The image of a set of classes.
-fn infuse_classes(alloc: Global, classes: &[ClassFile]) -> Result<Image, Stop>
-    requires { AllByRecursion IsRecord classes.now }
-    ensures found { IfOk result (λ image. IsOneClass classes.now (λ class. IsClassImage class image)) }
-    ensures refused { IfErr result (SetStopsFor classes.now) }
+/// The one class of a set, where it is one of one main.
+fn one_main(set: &ClassSet) -> Option<&ClassFile>
+    requires few { length set.now ≤ 512 }
+    ensures some { IfSome result (λ class. (set.now ≡ class.now ∷ []) × HasOneMainRecord class.now) }
+    ensures none { IsNone result → (class : Record) → set.now ≡ class ∷ [] → HasOneMainRecord class → ⊥ }
 {
-    match classes {
-        [class] if is_one_main(class) => infuse_class(alloc, class),
-        _ => Err(Stop::Unbuilt),
+    if set.file_count() == 1 {
+        let class = file_at(set, 0);
+        if is_one_main(class) {
+            return Some(class);
+        }
+    }
+    None
+}
+
+/// The image of a closed set of classes.
+fn infuse_closed(alloc: Global, set: &ClassSet) -> Result<Image, Stop>
+    requires records { AllByRecursion IsRecord set.now }
+    requires few { length set.now ≤ 512 }
+    ensures found { IfOk result (λ image. IsOneClass set.now (λ class. IsClassImage class image)) }
+    ensures refused { IfErr result (SetStopsFor set.now) }
+{
+    match one_main(set) {
+        Some(class) => infuse_class(alloc, class),
+        None => Err(Stop::Unbuilt),
     }
 }
 
@@ -114,12 +135,13 @@ fn refusal(cause: Cause, value: u32) -> Refusal
     }
 }
 
-/// The refusal of classes that have no image for this reason.
-fn refusal_for(alloc: Global, classes: &[ClassFile], why: Stop) -> Refusal
-    ensures { RefusesFor classes.now why result }
+/// The refusal of a set that has no image for this reason.
+fn refusal_for(alloc: Global, set: &ClassSet, why: Stop) -> Refusal
+    requires few { length set.now ≤ 512 }
+    ensures { RefusesFor set.now why result }
 {
     match why {
-        Stop::Unbuilt => unbuilt(alloc, classes),
+        Stop::Unbuilt => unbuilt(alloc, set),
         Stop::FrameTooLarge(cells) => refusal(Cause::FrameTooLarge, cells),
         Stop::CodeTooLong(bytes) => refusal(Cause::CodeTooLong, bytes),
         Stop::Memory => refusal(Cause::Memory, 0),
@@ -218,13 +240,6 @@ fn infuse_body(
     )
 }
 
-/// The flags have ACC_ABSTRACT.
-fn is_abstract(flags: u16) -> bool
-    ensures { result ≡ is_abstract flags }
-{
-    flags & 0x0400 != 0
-}
-
 /// The flags of the entry of a class that has these flags: an abstract class has 2.
 fn entry_flags(flags: u16) -> u8
     ensures { result ≡ entry_flags flags }
@@ -277,6 +292,6 @@ fn image(
         methods: Items::from_vec(methods),
         static_refs: 0,
         static_cells: Items::empty(alloc),
-        main: 32,
+        main: FIRST_OWN,
     })
 }

@@ -43,17 +43,3 @@ pub(crate) fn fill(numbers: &mut Vec<u32>, size: usize, number: u32) -> Result<(
     }
     Ok(())
 }
-
-/// Fills a list of indexes up to a length.
-pub(crate) fn fill_indexes(
-    indexes: &mut Vec<usize>,
-    size: usize,
-    index: usize,
-) -> Result<(), AllocError>
-    ensures { OnOk result (indexes.new.items ≡ indexes.old.items ++ replicate (size - length indexes.old.items) index) }
-{
-    while indexes.len() < size {
-        indexes.push(index)?;
-    }
-    Ok(())
-}

@@ -1,14 +1,15 @@
 //! The instructions of the number form, with their members resolved.
 
-ghost use Rattle.std.specs.Prelude.{◌≡◌, ◌≤◌, Some, option_map};
+ghost use Rattle.std.specs.Prelude.{◌≡◌, ◌<◌, ◌≤◌, Some, length, option_map, slice_index};
 ghost use Rattle.class_pool.specs.Members.{is_member, method_name_at};
 ghost use Rattle.jvm_model.specs.Body.{console, native_of, family_of};
-ghost use Rattle.jvm_model.specs.NumberForm.{pops as pops_of, pushes as pushes_of, is_jump as is_jump_of, is_final as is_final_of, reads as reads_of, writes as writes_of};
-ghost use Rattle.infuse_link.specs.NumberInsns.{native_meant, meant, unless_other};
+ghost use Rattle.jvm_model.specs.NumberForm.{pops as pops_of, pushes as pushes_of, is_jump as is_jump_of, is_final as is_final_of, reads as reads_of, writes as writes_of, targets};
+ghost use Rattle.infuse_link.specs.NumberInsns.{native_meant, meant, number_way, unless_other};
 
 use cell_num::{BinOp, Cond, Conv};
 use class_code::{Insn, StackForm, SwitchForm, SwitchRow, ValueKind};
 use class_pool::{MemberName, Pool, method_name};
+use code_reach::Flow;
 
 /// A native of `mote/Console`: `write(I)V`, `print(I)V` or `read()I`.
 #[derive(Clone, Copy, Debug, PartialEq, Eq)]
@@ -189,5 +190,49 @@ impl NumberInsn<'_> {
             NumberInsn::Store(local) => Some(local),
             _ => None,
         }
+    }
+}
+
+/// How many targets an instruction has.
+fn target_count(insn: NumberInsn<'_>) -> usize
+    ensures { result ≡ length (targets (meant insn.entry)) }
+{
+    match insn {
+        NumberInsn::If(..) | NumberInsn::IfCmp(..) | NumberInsn::Goto(_) => 1,
+        NumberInsn::Switch { rows, .. } => 1 + rows.len(),
+        _ => 0,
+    }
+}
+
+/// One of the targets of an instruction.
+fn target(insn: NumberInsn<'_>, index: usize) -> u32
+    requires { index < length (targets (meant insn)) }
+    ensures { result ≡ slice_index (targets (meant insn.entry)) index }
+{
+    match insn {
+        NumberInsn::If(_, target) | NumberInsn::IfCmp(_, target) | NumberInsn::Goto(target) => {
+            target
+        }
+        NumberInsn::Switch { default, rows, .. } => match index {
+            0 => default,
+            _ => rows[index - 1].target,
+        },
+        _ => 0,
+    }
+}
+
+impl Flow for NumberInsn<'_> {
+    ghost way = { number_way };
+
+    fn goes_on(&self) -> bool {
+        !self.is_final()
+    }
+
+    fn target_count(&self) -> usize {
+        target_count(*self)
+    }
+
+    fn target(&self, index: usize) -> u32 {
+        target(*self, index)
     }
 }

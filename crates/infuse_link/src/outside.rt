@@ -1,27 +1,27 @@
 //! Sets of no form that is built: which instruction is the first that is reached and outside the form.
 
-ghost use Rattle.std.specs.Prelude.{◌≡◌, ◌⊎◌, Some, None, false, get_or, IfErr, OnOk};
+ghost use Rattle.std.specs.Prelude.{◌≡◌, ◌⊎◌, ◌≤◌, Some, None, false, length, get_or, IfErr, OnOk};
 ghost use Rattle.jvm_model.specs.declared.refusal.Cause.TheVariants as cause;
 ghost use Rattle.class_code.specs.Code.{RiseFrom};
 ghost use Rattle.jvm_model.specs.BuiltForm.{unbuilt_at as unbuilt_at_of, FirstOf, NamesFirst, OutsideInsns, OutsideCode, OutsideMethod, OutsideClass};
 ghost use Rattle.infuse_link.specs.Sets.{first_outside as first_outside_of};
 
-use crate::marks::has;
 use crate::number_insn::of_form;
-use crate::reach::reached_pcs;
-use crate::sets::saturated;
-use class_code::{CodeRefusal, Insn, decode};
+use crate::sets::{file_at, saturated};
+use class_code::{CodeRefusal, Insn, decode, reached};
 use class_file::{ClassFile, CodeAttr, HandlerRow, Member};
 use class_pool::Pool;
+use class_tree::ClassSet;
 use jvm_model::{Cause, Refusal};
 use std::alloc::Global;
 
-/// The pc of the first of these instructions that is in the set and outside the form.
-fn first_outside(pool: &Pool, marks: &[bool], insns: &[(u32, Insn)]) -> Option<u32>
-    ensures { result ≡ first_outside_of pool.now (λ n. get_or marks.now n false) insns.now }
+/// The pc of the first of these instructions whose flag is set and that is outside the form.
+fn first_outside(pool: &Pool, flags: &[bool], insns: &[(u32, Insn)]) -> Option<u32>
+    requires { length flags.now ≡ length insns.now }
+    ensures { result ≡ first_outside_of pool.now flags.now insns.now }
 {
-    for x in insns {
-        if has(marks, x.0 as usize) && of_form(pool, &x.1).is_none() {
+    for (index, x) in insns.iter().enumerate() {
+        if flags[index] && of_form(pool, &x.1).is_none() {
             return Some(x.0);
         }
     }
@@ -67,10 +67,10 @@ fn test_insns(
     ensures inside { OnOk result (OutsideInsns file member pool.now handlers.now insns.now None) }
     ensures refused { IfErr result (λ why. (why.cause ≡ cause.Memory) ⊎ OutsideInsns file member pool.now handlers.now insns.now (Some why)) }
 {
-    let Ok(marks) = reached_pcs(alloc, handlers, insns) else {
+    let Ok(flags) = reached(alloc, insns, handlers) else {
         return Err(no_memory());
     };
-    match first_outside(pool, marks.as_slice(), insns) {
+    match first_outside(pool, flags.as_slice(), insns) {
         Some(pc) => Err(unbuilt_at(file, member, pc)),
         None => Ok(()),
     }
@@ -129,12 +129,13 @@ fn test_class(alloc: Global, file: usize, class: &ClassFile) -> Result<(), Refus
 }
 
 /// Tests that each reached instruction of each class is of the form.
-fn test_classes(alloc: Global, classes: &[ClassFile]) -> Result<(), Refusal>
-    ensures inside { OnOk result (FirstOf OutsideClass 0 classes.now None) }
-    ensures refused { IfErr result (λ why. (why.cause ≡ cause.Memory) ⊎ FirstOf OutsideClass 0 classes.now (Some why)) }
+fn test_classes(alloc: Global, set: &ClassSet) -> Result<(), Refusal>
+    requires few { length set.now ≤ 512 }
+    ensures inside { OnOk result (FirstOf OutsideClass 0 set.now None) }
+    ensures refused { IfErr result (λ why. (why.cause ≡ cause.Memory) ⊎ FirstOf OutsideClass 0 set.now (Some why)) }
 {
-    for (place, class) in classes.iter().enumerate() {
-        match test_class(alloc, place, class) {
+    for place in 0..usize::from(set.file_count()) {
+        match test_class(alloc, place, file_at(set, place)) {
             Ok(()) => {}
             Err(why) => return Err(why),
         }
@@ -142,11 +143,12 @@ fn test_classes(alloc: Global, classes: &[ClassFile]) -> Result<(), Refusal>
     Ok(())
 }
 
-/// The refusal of classes of no form that is built.
-pub(crate) fn unbuilt(alloc: Global, classes: &[ClassFile]) -> Refusal
-    ensures { (result.cause ≡ cause.Memory) ⊎ NamesFirst OutsideClass classes.now result }
+/// The refusal of a set of no form that is built.
+pub(crate) fn unbuilt(alloc: Global, set: &ClassSet) -> Refusal
+    requires few { length set.now ≤ 512 }
+    ensures { (result.cause ≡ cause.Memory) ⊎ NamesFirst OutsideClass set.now result }
 {
-    match test_classes(alloc, classes) {
+    match test_classes(alloc, set) {
         Err(why) => why,
         Ok(()) => Refusal {
             cause: Cause::Unbuilt,

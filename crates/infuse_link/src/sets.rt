@@ -1,16 +1,19 @@
-//! The first tests of a set of class files: its size, the reading of each file, and the code of each
-//! method.
+//! The first tests of a set of class files: its size, the reading of each file, the code of each method,
+//! and whether its classes are a closed set.
 
-ghost use Rattle.std.specs.Prelude.{◌≡◌, ◌⊎◌, Some, None, map, min, IfOk, IfErr, OnOk};
+ghost use Rattle.std.specs.Prelude.{◌≡◌, ◌⊎◌, ◌<◌, ◌≤◌, Some, None, map, min, length, slice_get, IfOk, IfErr, OnOk};
 ghost use Rattle.jvm_model.specs.declared.refusal.Cause.TheVariants as cause;
 ghost use Rattle.jvm_model.specs.Phases.{saturated as saturated_of, first_refusal, total_bytes as total_bytes_of, too_many as too_many_of, size_refusal, refusal_of_file as refusal_of_file_of, refusal_of_reading as refusal_of_reading_of, reading_refusal, fault_of, refusal_of_insn as refusal_of_insn_of, refusal_of_code as refusal_of_code_of, method_refusal, class_refusal};
+ghost use Rattle.jvm_model.specs.ClosedSet.{refusal_of_class as refusal_of_class_of, refusal_of_declared as refusal_of_declared_of, refusal_of_tree as refusal_of_tree_of, ClosedClasses};
 ghost use Rattle.class_file.specs.Relation.{IsClassFile};
 ghost use Rattle.class_code.specs.declared.refusal.CodeRefusal.TheVariants.{Memory as NoCodeMemory};
 ghost use Rattle.infuse_link.specs.Sets.{AreRead, reading_said, testing_said, handlers_said};
 
 use class_code::{CodeRefusal, decode, handlers_fit};
 use class_file::{ClassFile, CodeAttr, Member, ReadRefusal, read_class};
+use class_tree::{ClassSet, TreeRefusal, gather};
 use jvm_model::{Cause, Refusal};
+use library::FIRST_OWN;
 use std::alloc::Global;
 
 /// The most files of a set.
@@ -232,4 +235,76 @@ pub(crate) fn test_classes(alloc: Global, classes: &[ClassFile]) -> Result<(), R
         }
     }
     Ok(())
+}
+
+/// A refusal of a class.
+fn refusal_of_class(cause: Cause, file: u32) -> Refusal
+    ensures { result ≡ refusal_of_class_of cause file }
+{
+    Refusal {
+        cause,
+        file,
+        member: 0,
+        pc: 0,
+        value: 0,
+    }
+}
+
+/// A refusal of a declared member, or of what stands above a class.
+fn refusal_of_declared(cause: Cause, file: u32, member: u32, value: u32) -> Refusal
+    ensures { result ≡ refusal_of_declared_of cause file member value }
+{
+    Refusal {
+        cause,
+        file,
+        member,
+        pc: 0,
+        value,
+    }
+}
+
+/// The refusal of classes that are no closed set.
+fn refusal_of_tree(why: TreeRefusal) -> Refusal
+    ensures { result ≡ refusal_of_tree_of why }
+{
+    match why {
+        TreeRefusal::Duplicate { file } => refusal_of_class(Cause::Duplicate, file),
+        TreeRefusal::Reserved { file } => refusal_of_class(Cause::Reserved, file),
+        TreeRefusal::MissingClass {
+            file,
+            member,
+            value,
+        } => refusal_of_declared(Cause::MissingClass, file, member, value),
+        TreeRefusal::BadSuper { file } => refusal_of_class(Cause::BadSuper, file),
+        TreeRefusal::Circular { file } => refusal_of_class(Cause::Circular, file),
+        TreeRefusal::WideType {
+            file,
+            member,
+            value,
+        } => refusal_of_declared(Cause::WideType, file, member, value),
+        TreeRefusal::TooMany { count } => too_many(0, count as usize),
+        TreeRefusal::Memory => refusal_of_class(Cause::Memory, 0),
+    }
+}
+
+/// The closed set that the classes are: each name stands once, what stands above a class is there, no class
+/// is above itself, and the classes of declared descriptors are there.
+pub(crate) fn closed_set(alloc: Global, classes: Vec<ClassFile>) -> Result<ClassSet, Refusal>
+    ensures closed { IfOk result (λ set. set ≡ classes.items) }
+    ensures passed { OnOk result (ClosedClasses classes.items None) }
+    ensures refused { IfErr result (λ why. (why.cause ≡ cause.Memory) ⊎ ClosedClasses classes.items (Some why)) }
+{
+    match gather(alloc, classes) {
+        Ok(set) => Ok(set),
+        Err(why) => Err(refusal_of_tree(why)),
+    }
+}
+
+/// The record of the file at this place of a set.
+pub(crate) fn file_at(set: &ClassSet, place: usize) -> &ClassFile
+    requires few { length set.now ≤ 512 }
+    requires within { place < length set.now }
+    ensures { slice_get set.now place ≡ Some result.now }
+{
+    set.file(FIRST_OWN + place as u16)
 }

@@ -1,5 +1,5 @@
 use Rattle.std.proofs.Common.{◌+◌, Bool, ◌||◌, eqb, false, get_or, drop, map, List, sym, ap, ◌∙◌}
-use Rattle.class_code.specs.declared.insn.SwitchRow.{SwitchRow}
+use Rattle.insn_form.specs.declared.SwitchRow.{SwitchRow}
 use Rattle.jvm_model.specs.NumberForm.{is_in}
 use Rattle.infuse_link.proofs.Loops.{no_row, stepped, ended}
 use Rattle.infuse_link.proofs.Flags.{or_swap}

@@ -1,5 +1,5 @@
 use Rattle.std.proofs.Common.{sym, ap, ◌∙◌}
-use Rattle.class_code.specs.declared.insn.SwitchForm.{SwitchForm}
+use Rattle.insn_form.specs.declared.SwitchForm.{SwitchForm}
 use Rattle.jvm_model.specs.Program.{Switch}
 use Rattle.jvm_model.specs.Expansion.{size_of}
 use Rattle.infuse_link.proofs.Sizes.{lookup_size, table_size}
