@@ -1,24 +1,24 @@
 -- What follows from the promises.
-use Rattle.std.proofs.Common.{◌≡◌, ◌≢◌, ℕ, List, ◌∷◌, [], Option, inl, inr, refl, sym, ap, subst, ◌∙◌}
-use Rattle.std.specs.FinMap.{get, insert}
+use Rattle.std.proofs.Common.{◌≡◌, ◌≢◌, ℕ, List, Option, inl, inr, refl, sym, subst, ◌∙◌}
+use Rattle.std.specs.FinMap.{insert}
 use Rattle.host_face.specs.Shelf.{Files}
 use Rattle.image_form.specs.Format.{encoding}
 use Rattle.jvm_model.specs.declared.refusal.Refusal.{Refusal}
 use Rattle.jvm_model.specs.Verdict.{IsRefused}
 use Rattle.mote_top.specs.declared.status.Status.{Status}
 use Rattle.mote_top.specs.declared.status.Status.TheVariants.{ConsoleFault, ShelfFault, Memory}
-use Rattle.mote_top.specs.Words.{IsName, FitsOption, run_of, limits_of}
+use Rattle.mote_top.specs.Words.{IsName, Setting, AreOptions, run_of, limits_of}
 use Rattle.mote_top.specs.Call.{Call, After}
 use Rattle.mote_top.specs.Headline.{RunsSet, InfusesTo, StoresInfusion, IsAnswer, HasCause, ChangesOwn, NoneRose}
 use Rattle.mote_top.specs.Promises.{Promises}
-use Rattle.mote_top.proofs.Causes.{at_name}
+use Rattle.mote_top.proofs.Causes.{at_names}
 use Rattle.mote_top.proofs.Commands.{one_infuse}
 use Rattle.mote_top.proofs.SetLaws.{accepted_or_refused}
 use Rattle.mote_top.proofs.Stores.{kept_there}
 
-pub stored_runs : (first second : Call) (between : After) (files : List (List ℕ)) (out : List ℕ) (option : Option ℕ) → StoresInfusion first between files out
-    → second.shelf.kept ≡ between.shelf.kept → second.words ≡ run_of out option → IsName out → FitsOption option → RunsSet second files (limits_of option)
-stored_runs first second between files out option stored same words is_name fits =
+pub stored_runs : (first second : Call) (between : After) (files : List (List ℕ)) (out : List ℕ) (settings : List Setting) → StoresInfusion first between files out
+    → second.shelf.kept ≡ between.shelf.kept → second.words ≡ run_of out settings → IsName out → AreOptions settings → RunsSet second files (limits_of settings)
+stored_runs first second between files out settings stored same words is_name options =
     inr (record {
       image = stored.image;
       is_image = stored.is_image;
@@ -26,11 +26,11 @@ stored_runs first second between files out option stored same words is_name fits
           record {
             kept = insert stored.kept out (encoding stored.image);
             tells = same ∙ stored.stored;
-            option = option;
+            settings = settings;
             name = out;
             command = words;
             is_name = is_name;
-            fits = fits;
+            options = options;
             limits_are = refl;
             found = kept_there stored.kept out (encoding stored.image);
           };
@@ -40,10 +40,9 @@ stored_runs first second between files out option stored same words is_name fits
 unchanged : (call : Call) (now : Option Files) (files : List (List ℕ)) (out : List ℕ) (refusal : Refusal) → InfusesTo call files out → IsRefused files refusal → ChangesOwn call.words call.shelf.kept now → now ≡ call.shelf.kept
 unchanged call now files out refusal given refused (inl same) = same
 unchanged call now files out refusal given refused (inr changes) =
-    let one = one_infuse changes.out changes.class out given.class (sym changes.command ∙ given.command) in
-    let bytes : changes.bytes ≡ given.bytes = at_name call.shelf.kept given.kept changes.class changes.bytes given.bytes given.tells (ap (get given.kept) one.1 ∙ given.found) changes.found in
-    let here : files ≡ changes.bytes ∷ [] = given.files_are ∙ ap (λ (b : List ℕ). b ∷ []) (sym bytes) in
-    absurd (accepted_or_refused (changes.bytes ∷ []) refusal changes.accepted (subst (λ (f : List (List ℕ)). IsRefused f refusal) here refused))
+    let one = one_infuse changes.out changes.classes out given.classes (sym changes.command ∙ given.command) in
+    let same : changes.files ≡ files = at_names call.shelf.kept given.kept changes.classes given.classes changes.files files given.tells one.1 changes.found given.found in
+    absurd (accepted_or_refused changes.files refusal changes.accepted (subst (λ (f : List (List ℕ)). IsRefused f refusal) (sym same) refused))
 
 pub refused_keeps : (call : Call) (after : After) (files : List (List ℕ)) (out : List ℕ) (refusal : Refusal) → Promises call after → InfusesTo call files out → IsRefused files refusal → after.shelf.kept ≡ call.shelf.kept
 refused_keeps call after files out refusal promises given refused = unchanged call after.shelf.kept files out refusal given refused promises.stays.shelf.kept

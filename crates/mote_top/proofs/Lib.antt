@@ -1,6 +1,7 @@
 pub mod Answering
 pub mod Causes
 pub mod Choices
+pub mod Loads
 pub mod Commands
 pub mod Keeping
 pub mod Lasting
@@ -10,5 +11,8 @@ pub mod Positions
 pub mod RunAnswers
 pub mod Sets
 pub mod Stores
+pub mod OptionWords
+pub mod WordParts
 pub mod WordFaults
+pub mod WordSteps
 pub mod WordTests

@@ -1,321 +1,323 @@
--- Words that are no command, and the first place at which they stop being one.
-use Rattle.std.proofs.Common.{◌≡◌, ◌≢◌, ℕ, ◌+◌, ◌<◌, ◌≤◌, ◌^◌, List, [], ◌∷◌, ◌++◌, Option, Some, None, length, take, suc, ◌⊎◌, inl, inr, refl, sym, ap, subst, ◌∙◌, append_assoc, add-one, arith}
+-- What may come after the parts of commands, and words that are no command.
+use Rattle.std.proofs.Common.{◌≡◌, ◌≢◌, ℕ, ◌+◌, ◌<◌, ◌≤◌, ◌^◌, List, [], ◌∷◌, ◌++◌, Option, Some, None, length, take, drop, refl, sym, ap, subst, ◌∙◌, append_assoc, take-append-drop, arith}
 use Rattle.std.specs.Prelude.{codes, decimal}
+use Rattle.std.specs.List.{AllByRecursion}
+use Rattle.std.specs.Option.{option_to_list}
+use Rattle.std.proofs.lemmas.List.{append-nil}
 use Rattle.mote_top.specs.declared.words.Command.{Command}
-use Rattle.mote_top.specs.declared.words.Command.TheVariants.{Infuse, Run, Go}
-use Rattle.mote_top.specs.Words.{IsName, option_words, infuse_of, run_of, go_of, opts_of, IsCommand, FitsOption, Begins, FaultsAt}
+use Rattle.mote_top.specs.declared.words.Command.TheVariants as command
+use Rattle.mote_top.specs.declared.words.Given.{Given}
+use Rattle.mote_top.specs.declared.words.Runs.{Runs}
+use Rattle.mote_top.specs.declared.words.Runs.TheVariants.{Infusion, Classes}
+use Rattle.mote_top.specs.Words.{IsName, AreNames, Setting, Stack, Ticks, option_words, stacks_in, budgets_in, FitsSetting, AreOptions, infuse_of, run_of, go_of, IsCommand, Begins, StopsAt}
+use Rattle.mote_top.specs.Parts.{NoneBegins, IsHead, HasOptions, HasOption, HasClasses, HasOut}
+use Rattle.mote_top.proofs.OptionWords.{options_apart, no_stack, no_ticks, GoesOnBy, goes_on_by, stacks_more, budgets_more, fit_rest}
+use Rattle.mote_top.proofs.WordParts.{names_all, name_among, IsEnd, end_names}
 
--- no command begins with these words
-abbrev pub NoneBegins : List (List ℕ) → Type 0
-NoneBegins prefix = (more : List (List ℕ)) (command : Command) → IsCommand (prefix ++ more) command → ⊥
+-- ---- the words of a command after its head
 
--- ---- how words begin
+-- options and an end
+record IsTail (runs : Runs) (tail : List (List ℕ)) : Type 0 where
+  settings : List Setting
+  options : AreOptions settings
+  names : List (List ℕ)
+  ends : IsEnd runs names
+  tail_is : tail ≡ option_words settings ++ names
 
-any_name : List ℕ
-any_name = 0 ∷ []
+run_tail : (name : List ℕ) (tail : List (List ℕ)) (c : Command) → IsCommand (codes "run" ∷ name ∷ tail) c → IsTail Infusion tail
+run_tail name tail (command.Infuse out class) is = absurd (apart is.words_are)
+  where
+    apart : codes "run" ∷ name ∷ tail ≡ infuse_of is.out_name is.classes → ⊥
+    apart e = cc
+run_tail name tail (command.Go opts class) is = absurd (apart is.words_are)
+  where
+    apart : codes "run" ∷ name ∷ tail ≡ go_of is.settings is.classes → ⊥
+    apart e = cc
+run_tail name tail (command.Run slot opts) is = record { settings = is.settings; options = is.options; names = []; ends = refl; tail_is = rest is.words_are ∙ sym (append-nil (option_words is.settings)) }
+  where
+    rest : codes "run" ∷ name ∷ tail ≡ run_of is.name is.settings → tail ≡ option_words is.settings
+    rest e = cc
 
-any_is_name : IsName any_name
-unfolding any_name
-any_is_name = λ (e : 0 ≡ 45). cc
+go_tail : (tail : List (List ℕ)) (c : Command) → IsCommand (codes "go" ∷ tail) c → IsTail Classes tail
+go_tail tail (command.Infuse out class) is = absurd (apart is.words_are)
+  where
+    apart : codes "go" ∷ tail ≡ infuse_of is.out_name is.classes → ⊥
+    apart e = cc
+go_tail tail (command.Run slot opts) is = absurd (apart is.words_are)
+  where
+    apart : codes "go" ∷ tail ≡ run_of is.name is.settings → ⊥
+    apart e = cc
+go_tail tail (command.Go opts class) is = record { settings = is.settings; options = is.options; names = is.classes; ends = is.are_classes; tail_is = rest is.words_are }
+  where
+    rest : codes "go" ∷ tail ≡ go_of is.settings is.classes → tail ≡ option_words is.settings ++ is.classes
+    rest e = cc
 
--- ---- a fault at a word, and one at the end
+head_tail : (runs : Runs) (head tail : List (List ℕ)) (c : Command) → IsHead runs head → IsCommand (head ++ tail) c → IsTail runs tail
+head_tail Infusion head tail c (name, is_name, is) whole = run_tail name tail c (subst (λ (h : List (List ℕ)). IsCommand (h ++ tail) c) is whole)
+head_tail Classes head tail c is whole = go_tail tail c (subst (λ (h : List (List ℕ)). IsCommand (h ++ tail) c) is whole)
 
-take-prefix : (prefix : List (List ℕ)) (others : List (List ℕ)) → take (length prefix) (prefix ++ others) ≡ prefix
-take-prefix [] others = refl
-take-prefix (word ∷ prefix) others = ap (λ (rest : List (List ℕ)). word ∷ rest) (take-prefix prefix others)
+-- ---- what follows options
 
-take-prefix_suc : (prefix : List (List ℕ)) (word : List ℕ) (others : List (List ℕ)) → take (suc (length prefix)) (prefix ++ word ∷ others) ≡ prefix ++ word ∷ []
-take-prefix_suc [] word others = refl
-take-prefix_suc (first ∷ prefix) word others = ap (λ (rest : List (List ℕ)). first ∷ rest) (take-prefix_suc prefix word others)
+-- further options, each kind of which was not given before, and an end
+pub record Follows (runs : Runs) (given : Given) (tail : List (List ℕ)) : Type 0 where
+  pub more : List Setting
+  pub fit : AllByRecursion FitsSetting more
+  pub one_stack : length (option_to_list given.stack ++ stacks_in more) ≤ 1
+  pub one_budget : length (option_to_list given.ticks ++ budgets_in more) ≤ 1
+  pub names : List (List ℕ)
+  pub ends : IsEnd runs names
+  pub tail_is : tail ≡ option_words more ++ names
 
-take-prefix_one : (prefix : List (List ℕ)) (word : List ℕ) (others : List (List ℕ)) → take (length prefix + 1) (prefix ++ word ∷ others) ≡ prefix ++ word ∷ []
-take-prefix_one prefix word others = rw add-one (take-prefix_suc prefix word others)
-
-length-prefix : (prefix others : List (List ℕ)) → length prefix ≤ length (prefix ++ others)
-length-prefix [] others = omega arith
-length-prefix (word ∷ prefix) others = let rest = length-prefix prefix others in omega (arith, rest)
-
--- the words begin a command, and none goes on with this word
-pub faults_at_word : (prefix : List (List ℕ)) (word : List ℕ) (others : List (List ℕ)) → Begins prefix → NoneBegins (prefix ++ word ∷ []) → FaultsAt (prefix ++ word ∷ others) (length prefix)
-faults_at_word prefix word others begins none =
+follows_in : (words : List (List ℕ)) (runs : Runs) (given : Given) (tail : List (List ℕ)) (o : HasOptions words runs given) → (t : IsTail runs (option_words o.settings ++ tail)) → GoesOnBy o.settings t.settings tail t.names → Follows runs given tail
+follows_in words runs given tail o t on =
     record {
-      within = length-prefix prefix (word ∷ others);
-      begins = subst Begins (sym (take-prefix prefix (word ∷ others))) begins;
-      stops = λ less goes_on. let here : Begins (prefix ++ word ∷ []) = subst Begins (take-prefix_one prefix word others) goes_on in none here.more here.command here.whole;
-      no_command = λ command is. none others command (subst (λ (words : List (List ℕ)). IsCommand words command) (sym (append_assoc prefix (word ∷ []) others)) is);
+      more = on.more;
+      fit = fit_rest o.settings on.more (subst (λ (ss : List Setting). AllByRecursion FitsSetting ss) on.all_are t.options.fit);
+      one_stack =
+          subst (λ (ns : List ℕ). length ns ≤ 1)
+          (ap (λ (ss : List Setting). stacks_in ss) on.all_are ∙ stacks_more o.settings on.more ∙ ap (λ (ns : List ℕ). ns ++ stacks_in on.more) o.has.stacks) t.options.one_stack;
+      one_budget =
+          subst (λ (ns : List ℕ). length ns ≤ 1)
+          (ap (λ (ss : List Setting). budgets_in ss) on.all_are ∙ budgets_more o.settings on.more ∙ ap (λ (ns : List ℕ). ns ++ budgets_in on.more) o.has.budgets) t.options.one_budget;
+      names = t.names;
+      ends = t.ends;
+      tail_is = on.tail_is;
+    }
+
+-- what follows options in a command
+pub follows : (words : List (List ℕ)) (runs : Runs) (given : Given) (tail : List (List ℕ)) (c : Command) → HasOptions words runs given → IsCommand (words ++ tail) c → Follows runs given tail
+follows words runs given tail c o whole =
+    let here : IsCommand (o.head ++ (option_words o.settings ++ tail)) c = subst (λ (ws : List (List ℕ)). IsCommand ws c) (ap (λ (ws : List (List ℕ)). ws ++ tail) o.words_are ∙ append_assoc o.head (option_words o.settings) tail) whole in
+    let t = head_tail runs o.head (option_words o.settings ++ tail) c o.is_head here in
+    follows_in words runs given tail o t (goes_on_by o.settings t.settings tail t.names o.has.fit t.options.fit (end_names runs t.names t.ends) t.tail_is)
+
+-- what follows options and a word, with the word
+follows_option : (words : List (List ℕ)) (runs : Runs) (given : Given) (word : List ℕ) (tail : List (List ℕ)) (c : Command) → HasOption words runs given word → IsCommand (words ++ tail) c → Follows runs given (word ∷ tail)
+follows_option words runs given word tail c o whole =
+    follows o.before runs given (word ∷ tail) c o.options (subst (λ (ws : List (List ℕ)). IsCommand ws c) (ap (λ (ws : List (List ℕ)). ws ++ tail) o.words_are ∙ append_assoc o.before (word ∷ []) tail) whole)
+
+follows_classes : (words : List (List ℕ)) (given : Given) (tail : List (List ℕ)) (c : Command) (has : HasClasses words given) → IsCommand (words ++ tail) c → Follows Classes given (has.classes ++ tail)
+follows_classes words given tail c has whole =
+    follows has.before Classes given (has.classes ++ tail) c has.options (subst (λ (ws : List (List ℕ)). IsCommand ws c) (ap (λ (ws : List (List ℕ)). ws ++ tail) has.words_are ∙ append_assoc has.before has.classes tail) whole)
+
+-- ---- the next word
+
+head_is : {A : Type 0} (a b : A) (xs ys : List A) → a ∷ xs ≡ b ∷ ys → a ≡ b
+head_is a b xs ys e = cc
+
+second_is : {A : Type 0} (a b c d : A) (xs ys : List A) → a ∷ b ∷ xs ≡ c ∷ d ∷ ys → b ≡ d
+second_is a b c d xs ys e = cc
+
+no_item : {A : Type 0} (b : A) (bs : List A) → b ∷ bs ≡ [] → ⊥
+no_item b bs e = cc
+
+not_given : (given : Option ℕ) (numbers : List ℕ) (number : ℕ) → length (option_to_list given ++ number ∷ numbers) ≤ 1 → given ≡ None
+not_given None numbers number le = refl
+not_given (Some first) numbers number le = absurd (omega (arith, le))
+
+-- an option that was not given, or a name of a class
+pub data NextWord (runs : Runs) (given : Given) (word : List ℕ) : Type 0 where
+  NextStack : word ≡ codes "--stack" → given.stack ≡ None → NextWord runs given word
+  NextTicks : word ≡ codes "--ticks" → given.ticks ≡ None → NextWord runs given word
+  NextClass : runs ≡ Classes → IsName word → NextWord runs given word
+
+next_in : (runs : Runs) (given : Given) (word : List ℕ) (tail : List (List ℕ)) (more : List Setting) (names : List (List ℕ)) → length (option_to_list given.stack ++ stacks_in more) ≤ 1 → length (option_to_list given.ticks ++ budgets_in more) ≤ 1
+    → IsEnd runs names → word ∷ tail ≡ option_words more ++ names → NextWord runs given word
+next_in runs given word tail (Stack cells ∷ more) names stack budget ends is = NextStack (head_is word (codes "--stack") tail (decimal cells ∷ (option_words more ++ names)) is) (not_given given.stack (stacks_in more) cells stack)
+next_in runs given word tail (Ticks ticks ∷ more) names stack budget ends is = NextTicks (head_is word (codes "--ticks") tail (decimal ticks ∷ (option_words more ++ names)) is) (not_given given.ticks (budgets_in more) ticks budget)
+next_in Infusion given word tail [] names stack budget ends is = absurd (no_item word tail (is ∙ ends))
+next_in Classes given word tail [] names stack budget ends is = NextClass refl (subst (AllByRecursion IsName) (sym is) (names_all names ends)).0
+
+pub next_word : (words : List (List ℕ)) (runs : Runs) (given : Given) (word : List ℕ) (tail : List (List ℕ)) (c : Command) → HasOptions words runs given → IsCommand (words ++ (word ∷ tail)) c → NextWord runs given word
+next_word words runs given word tail c o whole =
+    let f = follows words runs given (word ∷ tail) c o whole in
+    next_in runs given word tail f.more f.names f.one_stack f.one_budget f.ends f.tail_is
+
+-- a number that may come after --stack, and after --ticks
+pub record IsStackNumber (word : List ℕ) : Type 0 where
+  pub cells : ℕ
+  pub least : 64 ≤ cells
+  pub most : cells ≤ 32767
+  pub word_is : word ≡ decimal cells
+
+pub record IsTicksNumber (word : List ℕ) : Type 0 where
+  pub ticks : ℕ
+  pub fits : ticks < 2 ^ 64
+  pub word_is : word ≡ decimal ticks
+
+apart_options : (xs ys : List (List ℕ)) → codes "--stack" ∷ xs ≡ codes "--ticks" ∷ ys → ⊥
+apart_options xs ys e = options_apart (head_is (codes "--stack") (codes "--ticks") xs ys e)
+
+stack_in : (runs : Runs) (word : List ℕ) (tail : List (List ℕ)) (more : List Setting) (names : List (List ℕ)) → AllByRecursion FitsSetting more → IsEnd runs names → codes "--stack" ∷ word ∷ tail ≡ option_words more ++ names → IsStackNumber word
+stack_in runs word tail [] names fit ends is = absurd (no_stack (word ∷ tail) names (end_names runs names ends) is)
+stack_in runs word tail (Ticks ticks ∷ more) names fit ends is = absurd (apart_options (word ∷ tail) (decimal ticks ∷ (option_words more ++ names)) is)
+stack_in runs word tail (Stack cells ∷ more) names fit ends is = record { cells = cells; least = fit.0.0; most = fit.0.1; word_is = second_is (codes "--stack") word (codes "--stack") (decimal cells) tail (option_words more ++ names) is }
+
+ticks_in : (runs : Runs) (word : List ℕ) (tail : List (List ℕ)) (more : List Setting) (names : List (List ℕ)) → AllByRecursion FitsSetting more → IsEnd runs names → codes "--ticks" ∷ word ∷ tail ≡ option_words more ++ names → IsTicksNumber word
+ticks_in runs word tail [] names fit ends is = absurd (no_ticks (word ∷ tail) names (end_names runs names ends) is)
+ticks_in runs word tail (Stack cells ∷ more) names fit ends is = absurd (apart_options (decimal cells ∷ (option_words more ++ names)) (word ∷ tail) (sym is))
+ticks_in runs word tail (Ticks ticks ∷ more) names fit ends is = record { ticks = ticks; fits = fit.0; word_is = second_is (codes "--ticks") word (codes "--ticks") (decimal ticks) tail (option_words more ++ names) is }
+
+pub stack_number : (words : List (List ℕ)) (runs : Runs) (given : Given) (word : List ℕ) (tail : List (List ℕ)) (c : Command) → HasOption words runs given (codes "--stack") → IsCommand (words ++ (word ∷ tail)) c → IsStackNumber word
+stack_number words runs given word tail c o whole =
+    let f = follows_option words runs given (codes "--stack") (word ∷ tail) c o whole in stack_in runs word tail f.more f.names f.fit f.ends f.tail_is
+
+pub ticks_number : (words : List (List ℕ)) (runs : Runs) (given : Given) (word : List ℕ) (tail : List (List ℕ)) (c : Command) → HasOption words runs given (codes "--ticks") → IsCommand (words ++ (word ∷ tail)) c → IsTicksNumber word
+ticks_number words runs given word tail c o whole =
+    let f = follows_option words runs given (codes "--ticks") (word ∷ tail) c o whole in ticks_in runs word tail f.more f.names f.fit f.ends f.tail_is
+
+-- after names of classes come names
+all_names : (more : List Setting) (classes names : List (List ℕ)) → AreNames classes → (tail : List (List ℕ)) → AllByRecursion IsName names → classes ++ tail ≡ option_words more ++ names → AllByRecursion IsName (classes ++ tail)
+all_names more [] names are tail all is = absurd are
+all_names [] (class ∷ classes) names are tail all is = subst (AllByRecursion IsName) (sym is) all
+all_names (Stack cells ∷ more) (class ∷ classes) names are tail all is = absurd (no_stack [] (class ∷ []) (are.0, tt) (ap (λ (w : List ℕ). w ∷ []) (sym (head_is class (codes "--stack") (classes ++ tail) (decimal cells ∷ (option_words more ++ names)) is))))
+all_names (Ticks ticks ∷ more) (class ∷ classes) names are tail all is = absurd (no_ticks [] (class ∷ []) (are.0, tt) (ap (λ (w : List ℕ). w ∷ []) (sym (head_is class (codes "--ticks") (classes ++ tail) (decimal ticks ∷ (option_words more ++ names)) is))))
+
+pub class_next : (words : List (List ℕ)) (given : Given) (word : List ℕ) (tail : List (List ℕ)) (c : Command) → HasClasses words given → IsCommand (words ++ (word ∷ tail)) c → IsName word
+class_next words given word tail c has whole =
+    let f = follows_classes words given (word ∷ tail) c has whole in name_among has.classes word tail (all_names f.more has.classes f.names has.are_classes (word ∷ tail) (names_all f.names f.ends) f.tail_is)
+
+-- ---- infuse and run
+
+out_tail : (tail : List (List ℕ)) (c : Command) → IsCommand (codes "infuse" ∷ tail) c → (out : List ℕ) × (classes : List (List ℕ)) × IsName out × AreNames classes × (tail ≡ out ∷ classes)
+out_tail tail (command.Run slot opts) is = absurd (apart is.words_are)
+  where
+    apart : codes "infuse" ∷ tail ≡ run_of is.name is.settings → ⊥
+    apart e = cc
+out_tail tail (command.Go opts class) is = absurd (apart is.words_are)
+  where
+    apart : codes "infuse" ∷ tail ≡ go_of is.settings is.classes → ⊥
+    apart e = cc
+out_tail tail (command.Infuse out class) is = (is.out_name, is.classes, is.is_out, is.are_classes, rest is.words_are)
+  where
+    rest : codes "infuse" ∷ tail ≡ infuse_of is.out_name is.classes → tail ≡ is.out_name ∷ is.classes
+    rest e = cc
+
+tail_is_of : {A : Type 0} (a b : A) (xs ys : List A) → a ∷ xs ≡ b ∷ ys → xs ≡ ys
+tail_is_of a b xs ys e = cc
+
+-- after infuse comes a name
+pub out_next : (words : List (List ℕ)) (word : List ℕ) (tail : List (List ℕ)) (c : Command) → words ≡ codes "infuse" ∷ [] → IsCommand (words ++ (word ∷ tail)) c → IsName word
+out_next words word tail c is whole =
+    let p = out_tail (word ∷ tail) c (subst (λ (ws : List (List ℕ)). IsCommand (ws ++ (word ∷ tail)) c) is whole) in
+    subst IsName (sym (head_is word p.0 tail p.1 p.4)) p.2
+
+-- after infuse and a name come names
+out_classes : (words classes : List (List ℕ)) (tail : List (List ℕ)) (c : Command) → HasOut words classes → IsCommand (words ++ tail) c → AreNames (classes ++ tail)
+out_classes words classes tail c out whole =
+    let p = out_tail (out.out ∷ (classes ++ tail)) c (subst (λ (ws : List (List ℕ)). IsCommand (ws ++ tail) c) out.words_are whole) in
+    subst AreNames (sym (tail_is_of out.out p.0 (classes ++ tail) p.1 p.4)) p.3
+
+pub out_class_next : (words classes : List (List ℕ)) (word : List ℕ) (tail : List (List ℕ)) (c : Command) → HasOut words classes → IsCommand (words ++ (word ∷ tail)) c → IsName word
+out_class_next words classes word tail c out whole =
+    name_among classes word tail (names_all (classes ++ (word ∷ tail)) (out_classes words classes (word ∷ tail) c out whole))
+
+pub out_no_command : (words : List (List ℕ)) (c : Command) → HasOut words [] → IsCommand words c → ⊥
+out_no_command words c out is = out_classes words [] [] c out (subst (λ (ws : List (List ℕ)). IsCommand ws c) (sym (append-nil words)) is)
+
+pub infuse_no_command : (words : List (List ℕ)) (c : Command) → words ≡ codes "infuse" ∷ [] → IsCommand words c → ⊥
+infuse_no_command words c is whole =
+    let p = out_tail [] c (subst (λ (ws : List (List ℕ)). IsCommand ws c) is whole) in
+    no_item p.0 p.1 (sym p.4)
+
+run_name : (tail : List (List ℕ)) (c : Command) → IsCommand (codes "run" ∷ tail) c → (name : List ℕ) × (settings : List Setting) × IsName name × (tail ≡ name ∷ option_words settings)
+run_name tail (command.Infuse out class) is = absurd (apart is.words_are)
+  where
+    apart : codes "run" ∷ tail ≡ infuse_of is.out_name is.classes → ⊥
+    apart e = cc
+run_name tail (command.Go opts class) is = absurd (apart is.words_are)
+  where
+    apart : codes "run" ∷ tail ≡ go_of is.settings is.classes → ⊥
+    apart e = cc
+run_name tail (command.Run slot opts) is = (is.name, is.settings, is.is_name, rest is.words_are)
+  where
+    rest : codes "run" ∷ tail ≡ run_of is.name is.settings → tail ≡ is.name ∷ option_words is.settings
+    rest e = cc
+
+pub run_next : (words : List (List ℕ)) (word : List ℕ) (tail : List (List ℕ)) (c : Command) → words ≡ codes "run" ∷ [] → IsCommand (words ++ (word ∷ tail)) c → IsName word
+run_next words word tail c is whole =
+    let p = run_name (word ∷ tail) c (subst (λ (ws : List (List ℕ)). IsCommand (ws ++ (word ∷ tail)) c) is whole) in
+    subst IsName (sym (head_is word p.0 tail (option_words p.1) p.3)) p.2
+
+pub run_no_command : (words : List (List ℕ)) (c : Command) → words ≡ codes "run" ∷ [] → IsCommand words c → ⊥
+run_no_command words c is whole =
+    let p = run_name [] c (subst (λ (ws : List (List ℕ)). IsCommand ws c) is whole) in
+    no_item p.0 (option_words p.1) (sym p.3)
+
+-- ---- the first word
+
+pub first_is : (first : List ℕ) (others : List (List ℕ)) (c : Command) → IsCommand (first ∷ others) c → first ≢ codes "infuse" → first ≢ codes "run" → first ≢ codes "go" → ⊥
+first_is first others (command.Infuse out class) is a b d = a (same is.words_are)
+  where
+    same : first ∷ others ≡ infuse_of is.out_name is.classes → first ≡ codes "infuse"
+    same e = cc
+first_is first others (command.Run slot opts) is a b d = b (same is.words_are)
+  where
+    same : first ∷ others ≡ run_of is.name is.settings → first ≡ codes "run"
+    same e = cc
+first_is first others (command.Go opts class) is a b d = d (same is.words_are)
+  where
+    same : first ∷ others ≡ go_of is.settings is.classes → first ≡ codes "go"
+    same e = cc
+
+pub start_no_command : (words : List (List ℕ)) (c : Command) → words ≡ [] → IsCommand words c → ⊥
+start_no_command words (command.Infuse out class) is whole = no_item (codes "infuse") (whole.out_name ∷ whole.classes) (sym whole.words_are ∙ is)
+start_no_command words (command.Run slot opts) is whole = no_item (codes "run") (whole.name ∷ option_words whole.settings) (sym whole.words_are ∙ is)
+start_no_command words (command.Go opts class) is whole = no_item (codes "go") (option_words whole.settings ++ whole.classes) (sym whole.words_are ∙ is)
+
+-- ---- options at the end
+
+end_in : (given : Given) (more : List Setting) (names : List (List ℕ)) → AreNames names → [] ≡ option_words more ++ names → ⊥
+end_in given [] [] are is = are
+end_in given [] (name ∷ names) are is = no_item name names (sym is)
+end_in given (Stack cells ∷ more) names are is = no_item (codes "--stack") (decimal cells ∷ (option_words more ++ names)) (sym is)
+end_in given (Ticks ticks ∷ more) names are is = no_item (codes "--ticks") (decimal ticks ∷ (option_words more ++ names)) (sym is)
+
+pub options_no_command : (words : List (List ℕ)) (given : Given) (c : Command) → HasOptions words Classes given → IsCommand words c → ⊥
+options_no_command words given c o is =
+    let f = follows words Classes given [] c o (subst (λ (ws : List (List ℕ)). IsCommand ws c) (sym (append-nil words)) is) in end_in given f.more f.names f.ends f.tail_is
+
+one_word : (word option number : List ℕ) (others : List (List ℕ)) → word ∷ [] ≡ option ∷ number ∷ others → ⊥
+one_word word option number others e = no_item number others (sym (tail_is_of word option [] (number ∷ others) e))
+
+-- an option without its number
+half_in : (runs : Runs) (word : List ℕ) (more : List Setting) (names : List (List ℕ)) → (AllByRecursion IsName names → word ∷ [] ≡ names → ⊥) → IsEnd runs names → word ∷ [] ≡ option_words more ++ names → ⊥
+half_in runs word [] names apart ends is = apart (end_names runs names ends) is
+half_in runs word (Stack cells ∷ more) names apart ends is = one_word word (codes "--stack") (decimal cells) (option_words more ++ names) is
+half_in runs word (Ticks ticks ∷ more) names apart ends is = one_word word (codes "--ticks") (decimal ticks) (option_words more ++ names) is
+
+half_no_command : (words : List (List ℕ)) (runs : Runs) (given : Given) (word : List ℕ) (c : Command) → ((names : List (List ℕ)) → AllByRecursion IsName names → word ∷ [] ≡ names → ⊥) → HasOption words runs given word → IsCommand words c → ⊥
+half_no_command words runs given word c apart o is =
+    let f = follows_option words runs given word [] c o (subst (λ (ws : List (List ℕ)). IsCommand ws c) (sym (append-nil words)) is) in half_in runs word f.more f.names (apart f.names) f.ends f.tail_is
+
+pub stack_no_command : (words : List (List ℕ)) (runs : Runs) (given : Given) (c : Command) → HasOption words runs given (codes "--stack") → IsCommand words c → ⊥
+stack_no_command words runs given c o is = half_no_command words runs given (codes "--stack") c (no_stack []) o is
+
+pub ticks_no_command : (words : List (List ℕ)) (runs : Runs) (given : Given) (c : Command) → HasOption words runs given (codes "--ticks") → IsCommand words c → ⊥
+ticks_no_command words runs given c o is = half_no_command words runs given (codes "--ticks") c (no_ticks []) o is
+
+-- ---- places
+
+-- the words before a place begin a command, and none begins with one word more
+pub stops_at_word : (words : List (List ℕ)) (place : ℕ) → place < length words → Begins (take place words) → NoneBegins (take (place + 1) words) → StopsAt words place
+stops_at_word words place less begins none =
+    record {
+      within = omega (arith, less);
+      begins = begins;
+      stops = λ lt b. none b.more b.command b.whole;
+      no_command = λ c is. none (drop (place + 1) words) c (subst (λ (ws : List (List ℕ)). IsCommand ws c) (sym (take-append-drop (place + 1) words)) is);
     }
 
 -- all words begin a command, and are none
-pub faults_at_end : (words : List (List ℕ)) → Begins words → ((command : Command) → IsCommand words command → ⊥) → FaultsAt words (length words)
-faults_at_end words begins none =
+pub stops_at_end : (words : List (List ℕ)) → Begins words → ((c : Command) → IsCommand words c → ⊥) → StopsAt words (length words)
+stops_at_end words begins none =
     record {
       within = omega arith;
-      begins = subst Begins (sym (ap (λ (all : List (List ℕ)). take (length words) all) (sym (nothing_more words)) ∙ take-prefix words [])) begins;
+      begins = subst Begins (sym (take_all words)) begins;
       stops = λ less goes_on. absurd (omega (arith, less));
       no_command = none;
     }
   where
-    nothing_more : (all : List (List ℕ)) → all ++ [] ≡ all
-    nothing_more [] = refl
-    nothing_more (word ∷ all) = ap (λ (rest : List (List ℕ)). word ∷ rest) (nothing_more all)
-
--- ---- what the words of commands are
-
-go_parts : (others : List (List ℕ)) (command : Command) → IsCommand (codes "go" ∷ others) command → (name : List ℕ) × (option : Option ℕ) × (others ≡ option_words option ++ name ∷ []) × IsName name × FitsOption option
-go_parts others (Infuse out class) is = absurd (apart is.words_are)
-  where
-    apart : codes "go" ∷ others ≡ infuse_of is.out_name is.class_name → ⊥
-    apart e = cc
-go_parts others (Run slot opts) is = absurd (apart is.words_are)
-  where
-    apart : codes "go" ∷ others ≡ run_of is.name is.option → ⊥
-    apart e = cc
-go_parts others (Go opts class) is = (is.name, is.option, rest is.words_are, is.is_name, is.fits)
-  where
-    rest : codes "go" ∷ others ≡ go_of is.option is.name → others ≡ option_words is.option ++ is.name ∷ []
-    rest e = cc
-
-run_parts : (others : List (List ℕ)) (command : Command) → IsCommand (codes "run" ∷ others) command → (name : List ℕ) × (option : Option ℕ) × (others ≡ name ∷ option_words option) × IsName name × FitsOption option
-run_parts others (Infuse out class) is = absurd (apart is.words_are)
-  where
-    apart : codes "run" ∷ others ≡ infuse_of is.out_name is.class_name → ⊥
-    apart e = cc
-run_parts others (Go opts class) is = absurd (apart is.words_are)
-  where
-    apart : codes "run" ∷ others ≡ go_of is.option is.name → ⊥
-    apart e = cc
-run_parts others (Run slot opts) is = (is.name, is.option, rest is.words_are, is.is_name, is.fits)
-  where
-    rest : codes "run" ∷ others ≡ run_of is.name is.option → others ≡ is.name ∷ option_words is.option
-    rest e = cc
-
-infuse_parts : (others : List (List ℕ)) (command : Command) → IsCommand (codes "infuse" ∷ others) command → (out : List ℕ) × (class : List ℕ) × (others ≡ out ∷ class ∷ []) × IsName out × IsName class
-infuse_parts others (Infuse out class) is = (is.out_name, is.class_name, rest is.words_are, is.is_out, is.is_class)
-  where
-    rest : codes "infuse" ∷ others ≡ infuse_of is.out_name is.class_name → others ≡ is.out_name ∷ is.class_name ∷ []
-    rest e = cc
-infuse_parts others (Go opts class) is = absurd (apart is.words_are)
-  where
-    apart : codes "infuse" ∷ others ≡ go_of is.option is.name → ⊥
-    apart e = cc
-infuse_parts others (Run slot opts) is = absurd (apart is.words_are)
-  where
-    apart : codes "infuse" ∷ others ≡ run_of is.name is.option → ⊥
-    apart e = cc
-
--- the first word of a command
-first_word : (first : List ℕ) (others : List (List ℕ)) (command : Command) → IsCommand (first ∷ others) command → (first ≢ codes "infuse") → (first ≢ codes "run") → (first ≢ codes "go") → ⊥
-first_word first others (Infuse out class) is a b c = a (same is.words_are)
-  where
-    same : first ∷ others ≡ infuse_of is.out_name is.class_name → first ≡ codes "infuse"
-    same e = cc
-first_word first others (Run slot opts) is a b c = b (same is.words_are)
-  where
-    same : first ∷ others ≡ run_of is.name is.option → first ≡ codes "run"
-    same e = cc
-first_word first others (Go opts class) is a b c = c (same is.words_are)
-  where
-    same : first ∷ others ≡ go_of is.option is.name → first ≡ codes "go"
-    same e = cc
-
--- ---- words that begin commands
-
-begins_none : Begins []
-begins_none = record { more = go_of None any_name; command = Go (opts_of None) 1; whole = record { name = any_name; option = None; words_are = refl; is_name = any_is_name; fits = tt; opts_are = refl; first_is = refl } }
-
-begins_infuse : Begins (codes "infuse" ∷ [])
-begins_infuse = record { more = any_name ∷ any_name ∷ []; command = Infuse 1 2; whole = record { out_name = any_name; class_name = any_name; words_are = refl; is_out = any_is_name; is_class = any_is_name; out_is = refl; first_is = refl } }
-
-begins_infuse_out : (out : List ℕ) → IsName out → Begins (codes "infuse" ∷ out ∷ [])
-begins_infuse_out out is_out = record { more = any_name ∷ []; command = Infuse 1 2; whole = record { out_name = out; class_name = any_name; words_are = refl; is_out = is_out; is_class = any_is_name; out_is = refl; first_is = refl } }
-
-begins_infuse_class : (out class : List ℕ) → IsName out → IsName class → Begins (codes "infuse" ∷ out ∷ class ∷ [])
-begins_infuse_class out class is_out is_class = record { more = []; command = Infuse 1 2; whole = record { out_name = out; class_name = class; words_are = refl; is_out = is_out; is_class = is_class; out_is = refl; first_is = refl } }
-
-begins_run : Begins (codes "run" ∷ [])
-begins_run = record { more = any_name ∷ []; command = Run 1 (opts_of None); whole = record { name = any_name; option = None; words_are = refl; is_name = any_is_name; fits = tt; name_is = refl; opts_are = refl } }
-
-begins_run_name : (name : List ℕ) → IsName name → Begins (codes "run" ∷ name ∷ [])
-begins_run_name name is_name = record { more = []; command = Run 1 (opts_of None); whole = record { name = name; option = None; words_are = refl; is_name = is_name; fits = tt; name_is = refl; opts_are = refl } }
-
-begins_run_option : (name : List ℕ) → IsName name → Begins (codes "run" ∷ name ∷ codes "--ticks" ∷ [])
-begins_run_option name is_name = record { more = decimal 0 ∷ []; command = Run 1 (opts_of (Some 0)); whole = record { name = name; option = Some 0; words_are = refl; is_name = is_name; fits = omega arith; name_is = refl; opts_are = refl } }
-
-begins_run_ticks : (name : List ℕ) (ticks : ℕ) → IsName name → ticks < 2 ^ 64 → Begins (codes "run" ∷ name ∷ codes "--ticks" ∷ decimal ticks ∷ [])
-begins_run_ticks name ticks is_name fits = record { more = []; command = Run 1 (opts_of (Some ticks)); whole = record { name = name; option = Some ticks; words_are = refl; is_name = is_name; fits = fits; name_is = refl; opts_are = refl } }
-
-begins_go : Begins (codes "go" ∷ [])
-begins_go = record { more = any_name ∷ []; command = Go (opts_of None) 1; whole = record { name = any_name; option = None; words_are = refl; is_name = any_is_name; fits = tt; opts_are = refl; first_is = refl } }
-
-begins_go_name : (name : List ℕ) → IsName name → Begins (codes "go" ∷ name ∷ [])
-begins_go_name name is_name = record { more = []; command = Go (opts_of None) 1; whole = record { name = name; option = None; words_are = refl; is_name = is_name; fits = tt; opts_are = refl; first_is = refl } }
-
-begins_go_option : Begins (codes "go" ∷ codes "--ticks" ∷ [])
-begins_go_option = record { more = decimal 0 ∷ any_name ∷ []; command = Go (opts_of (Some 0)) 3; whole = record { name = any_name; option = Some 0; words_are = refl; is_name = any_is_name; fits = omega arith; opts_are = refl; first_is = refl } }
-
-begins_go_ticks : (ticks : ℕ) → ticks < 2 ^ 64 → Begins (codes "go" ∷ codes "--ticks" ∷ decimal ticks ∷ [])
-begins_go_ticks ticks fits = record { more = any_name ∷ []; command = Go (opts_of (Some ticks)) 3; whole = record { name = any_name; option = Some ticks; words_are = refl; is_name = any_is_name; fits = fits; opts_are = refl; first_is = refl } }
-
-begins_go_class : (ticks : ℕ) (name : List ℕ) → ticks < 2 ^ 64 → IsName name → Begins (codes "go" ∷ codes "--ticks" ∷ decimal ticks ∷ name ∷ [])
-begins_go_class ticks name fits is_name = record { more = []; command = Go (opts_of (Some ticks)) 3; whole = record { name = name; option = Some ticks; words_are = refl; is_name = is_name; fits = fits; opts_are = refl; first_is = refl } }
-
--- ---- the faults
-
-head_is : {A : Type 0} (a b : A) (xs ys : List A) → a ∷ xs ≡ b ∷ ys → b ≡ a
-head_is a b xs ys e = cc
-
-tail_is : {A : Type 0} (a b : A) (xs ys : List A) → a ∷ xs ≡ b ∷ ys → xs ≡ ys
-tail_is a b xs ys e = cc
-
-no_item : {A : Type 0} (b : A) (bs : List A) → [] ≡ b ∷ bs → ⊥
-no_item b bs e = cc
-
-item_is_none : {A : Type 0} (b : A) (bs : List A) → b ∷ bs ≡ [] → ⊥
-item_is_none b bs e = cc
-
-no_words : (command : Command) → IsCommand [] command → ⊥
-no_words (Infuse out class) is = no_item (codes "infuse") (is.out_name ∷ is.class_name ∷ []) is.words_are
-no_words (Run slot opts) is = no_item (codes "run") (is.name ∷ option_words is.option) is.words_are
-no_words (Go opts class) is = no_item (codes "go") (option_words is.option ++ is.name ∷ []) is.words_are
-
-pub faults_none : FaultsAt [] 0
-faults_none = faults_at_end [] begins_none no_words
-
--- the first word is no command's
-pub faults_first : (first : List ℕ) (others : List (List ℕ)) → first ≢ codes "infuse" → first ≢ codes "run" → first ≢ codes "go" → FaultsAt (first ∷ others) 0
-faults_first first others a b c = faults_at_word [] first others begins_none (λ more command is. first_word first more command is a b c)
-
--- infuse alone
-pub faults_infuse : FaultsAt (codes "infuse" ∷ []) 1
-faults_infuse = faults_at_end (codes "infuse" ∷ []) begins_infuse (λ command is. let p = infuse_parts [] command is in no_item p.0 (p.1 ∷ []) p.2)
-
-pub faults_infuse_out : (out : List ℕ) (others : List (List ℕ)) → (IsName out → ⊥) → FaultsAt (codes "infuse" ∷ out ∷ others) 1
-faults_infuse_out out others no_name =
-    faults_at_word (codes "infuse" ∷ []) out others begins_infuse (λ more command is.
-    let p = infuse_parts (out ∷ more) command is in no_name (subst IsName (head_is out p.0 more (p.1 ∷ []) p.2) p.3))
-
-pub faults_infuse_end : (out : List ℕ) → IsName out → FaultsAt (codes "infuse" ∷ out ∷ []) 2
-faults_infuse_end out is_out =
-    faults_at_end (codes "infuse" ∷ out ∷ []) (begins_infuse_out out is_out) (λ command is.
-    let p = infuse_parts (out ∷ []) command is in no_item p.1 [] (tail_is out p.0 [] (p.1 ∷ []) p.2))
-
-pub faults_infuse_class : (out class : List ℕ) (others : List (List ℕ)) → IsName out → (IsName class → ⊥) → FaultsAt (codes "infuse" ∷ out ∷ class ∷ others) 2
-faults_infuse_class out class others is_out no_name =
-    faults_at_word (codes "infuse" ∷ out ∷ []) class others (begins_infuse_out out is_out) (λ more command is.
-    let p = infuse_parts (out ∷ class ∷ more) command is in
-    no_name (subst IsName (head_is class p.1 more [] (tail_is out p.0 (class ∷ more) (p.1 ∷ []) p.2)) p.4))
-
-pub faults_infuse_more : (out class word : List ℕ) (others : List (List ℕ)) → IsName out → IsName class → FaultsAt (codes "infuse" ∷ out ∷ class ∷ word ∷ others) 3
-faults_infuse_more out class word others is_out is_class =
-    faults_at_word (codes "infuse" ∷ out ∷ class ∷ []) word others (begins_infuse_class out class is_out is_class) (λ more command is.
-    let p = infuse_parts (out ∷ class ∷ word ∷ more) command is in
-    item_is_none word more (tail_is class p.1 (word ∷ more) [] (tail_is out p.0 (class ∷ word ∷ more) (p.1 ∷ []) p.2)))
-
--- run alone
-pub faults_run : FaultsAt (codes "run" ∷ []) 1
-faults_run = faults_at_end (codes "run" ∷ []) begins_run (λ command is. let p = run_parts [] command is in no_item p.0 (option_words p.1) p.2)
-
-pub faults_run_name : (name : List ℕ) (others : List (List ℕ)) → (IsName name → ⊥) → FaultsAt (codes "run" ∷ name ∷ others) 1
-faults_run_name name others no_name =
-    faults_at_word (codes "run" ∷ []) name others begins_run (λ more command is.
-    let p = run_parts (name ∷ more) command is in no_name (subst IsName (head_is name p.0 more (option_words p.1) p.2) p.3))
-
--- the words of an option that begin with this one
-option_first : (word : List ℕ) (others : List (List ℕ)) (option : Option ℕ) → word ∷ others ≡ option_words option → (ticks : ℕ) × (option ≡ Some ticks) × (word ≡ codes "--ticks") × (others ≡ decimal ticks ∷ [])
-option_first word others None e = absurd (item_is_none word others e)
-option_first word others (Some ticks) e = (ticks, refl, sym (head_is word (codes "--ticks") others (decimal ticks ∷ []) e), tail_is word (codes "--ticks") others (decimal ticks ∷ []) e)
-
-pub faults_run_option : (name word : List ℕ) (others : List (List ℕ)) → IsName name → word ≢ codes "--ticks" → FaultsAt (codes "run" ∷ name ∷ word ∷ others) 2
-faults_run_option name word others is_name other =
-    faults_at_word (codes "run" ∷ name ∷ []) word others (begins_run_name name is_name) (λ more command is.
-    let p = run_parts (name ∷ word ∷ more) command is in
-    other (option_first word more p.1 (tail_is name p.0 (word ∷ more) (option_words p.1) p.2)).2)
-
-pub faults_run_end : (name : List ℕ) → IsName name → FaultsAt (codes "run" ∷ name ∷ codes "--ticks" ∷ []) 3
-faults_run_end name is_name =
-    faults_at_end (codes "run" ∷ name ∷ codes "--ticks" ∷ []) (begins_run_option name is_name) (λ command is.
-    let p = run_parts (name ∷ codes "--ticks" ∷ []) command is in
-    let o = option_first (codes "--ticks") [] p.1 (tail_is name p.0 (codes "--ticks" ∷ []) (option_words p.1) p.2) in
-    no_item (decimal o.0) [] o.3)
-
--- the word is no number of ticks
-abbrev pub IsNoTicks : List ℕ → Type 0
-IsNoTicks word = (ticks : ℕ) → ticks < 2 ^ 64 → word ≢ decimal ticks
-
-fits_some : (option : Option ℕ) (ticks : ℕ) → option ≡ Some ticks → FitsOption option → ticks < 2 ^ 64
-fits_some option ticks e fits = let here : FitsOption (Some ticks) = subst FitsOption e fits in here
-
-pub faults_run_ticks : (name word : List ℕ) (others : List (List ℕ)) → IsName name → IsNoTicks word → FaultsAt (codes "run" ∷ name ∷ codes "--ticks" ∷ word ∷ others) 3
-faults_run_ticks name word others is_name none =
-    faults_at_word (codes "run" ∷ name ∷ codes "--ticks" ∷ []) word others (begins_run_option name is_name) (λ more command is.
-    let p = run_parts (name ∷ codes "--ticks" ∷ word ∷ more) command is in
-    let o = option_first (codes "--ticks") (word ∷ more) p.1 (tail_is name p.0 (codes "--ticks" ∷ word ∷ more) (option_words p.1) p.2) in
-    none o.0 (fits_some p.1 o.0 o.1 p.4) (sym (head_is word (decimal o.0) more [] o.3)))
-
-pub faults_run_more : (name : List ℕ) (ticks : ℕ) (word : List ℕ) (others : List (List ℕ)) → IsName name → ticks < 2 ^ 64 → FaultsAt (codes "run" ∷ name ∷ codes "--ticks" ∷ decimal ticks ∷ word ∷ others) 4
-faults_run_more name ticks word others is_name fits =
-    faults_at_word (codes "run" ∷ name ∷ codes "--ticks" ∷ decimal ticks ∷ []) word others (begins_run_ticks name ticks is_name fits) (λ more command is.
-    let p = run_parts (name ∷ codes "--ticks" ∷ decimal ticks ∷ word ∷ more) command is in
-    let o = option_first (codes "--ticks") (decimal ticks ∷ word ∷ more) p.1 (tail_is name p.0 (codes "--ticks" ∷ decimal ticks ∷ word ∷ more) (option_words p.1) p.2) in
-    item_is_none word more (tail_is (decimal ticks) (decimal o.0) (word ∷ more) [] o.3))
-
--- go alone
-go_first : (word : List ℕ) (others : List (List ℕ)) (option : Option ℕ) (name : List ℕ) → IsName name → word ∷ others ≡ option_words option ++ name ∷ [] → (IsName word × (others ≡ [])) ⊎ ((ticks : ℕ) × (option ≡ Some ticks) × (word ≡ codes "--ticks") × (others ≡ decimal ticks ∷ name ∷ []))
-go_first word others None name is_name e = inl (subst IsName (head_is word name others [] e) is_name, tail_is word name others [] e)
-go_first word others (Some ticks) name is_name e = inr (ticks, refl, sym (head_is word (codes "--ticks") others (decimal ticks ∷ name ∷ []) e), tail_is word (codes "--ticks") others (decimal ticks ∷ name ∷ []) e)
-
-option_is_no_name : IsName (codes "--ticks") → ⊥
-option_is_no_name is_name = is_name refl
-
-ends_in_name : (option : Option ℕ) (name : List ℕ) → [] ≡ option_words option ++ name ∷ [] → ⊥
-ends_in_name None name e = no_item name [] e
-ends_in_name (Some ticks) name e = no_item (codes "--ticks") (decimal ticks ∷ name ∷ []) e
-
-pub faults_go : FaultsAt (codes "go" ∷ []) 1
-faults_go = faults_at_end (codes "go" ∷ []) begins_go (λ command is. let p = go_parts [] command is in ends_in_name p.1 p.0 p.2)
-
-pub faults_go_name : (name : List ℕ) (others : List (List ℕ)) → name ≢ codes "--ticks" → (IsName name → ⊥) → FaultsAt (codes "go" ∷ name ∷ others) 1
-faults_go_name name others other no_name =
-    faults_at_word (codes "go" ∷ []) name others begins_go (λ more command is.
-    let p = go_parts (name ∷ more) command is in
-    elim (go_first name more p.1 p.0 p.3 p.2) [ inl one ↦ no_name one.0 | inr with_option ↦ other with_option.2 ])
-
-pub faults_go_more : (name word : List ℕ) (others : List (List ℕ)) → IsName name → FaultsAt (codes "go" ∷ name ∷ word ∷ others) 2
-faults_go_more name word others is_name =
-    faults_at_word (codes "go" ∷ name ∷ []) word others (begins_go_name name is_name) (λ more command is.
-    let p = go_parts (name ∷ word ∷ more) command is in
-    elim (go_first name (word ∷ more) p.1 p.0 p.3 p.2) [ inl one ↦ item_is_none word more one.1 | inr with_option ↦ option_is_no_name (subst IsName with_option.2 is_name) ])
-
--- go with an option
-go_second : (others : List (List ℕ)) (command : Command) → IsCommand (codes "go" ∷ codes "--ticks" ∷ others) command → (ticks : ℕ) × (name : List ℕ) × (others ≡ decimal ticks ∷ name ∷ []) × (ticks < 2 ^ 64) × IsName name
-go_second others command is =
-    let p = go_parts (codes "--ticks" ∷ others) command is in
-    elim (go_first (codes "--ticks") others p.1 p.0 p.3 p.2) [
-      | inl one ↦ absurd (option_is_no_name one.0)
-      | inr with_option ↦ (with_option.0, p.0, with_option.3, fits_some p.1 with_option.0 with_option.1 p.4, p.3)
-    ]
-
-pub faults_go_option : FaultsAt (codes "go" ∷ codes "--ticks" ∷ []) 2
-faults_go_option = faults_at_end (codes "go" ∷ codes "--ticks" ∷ []) begins_go_option (λ command is. let p = go_second [] command is in no_item (decimal p.0) (p.1 ∷ []) p.2)
-
-pub faults_go_ticks : (word : List ℕ) (others : List (List ℕ)) → IsNoTicks word → FaultsAt (codes "go" ∷ codes "--ticks" ∷ word ∷ others) 2
-faults_go_ticks word others none =
-    faults_at_word (codes "go" ∷ codes "--ticks" ∷ []) word others begins_go_option (λ more command is.
-    let p = go_second (word ∷ more) command is in none p.0 p.3 (sym (head_is word (decimal p.0) more (p.1 ∷ []) p.2)))
-
-pub faults_go_end : (ticks : ℕ) → ticks < 2 ^ 64 → FaultsAt (codes "go" ∷ codes "--ticks" ∷ decimal ticks ∷ []) 3
-faults_go_end ticks fits =
-    faults_at_end (codes "go" ∷ codes "--ticks" ∷ decimal ticks ∷ []) (begins_go_ticks ticks fits) (λ command is.
-    let p = go_second (decimal ticks ∷ []) command is in no_item p.1 [] (tail_is (decimal ticks) (decimal p.0) [] (p.1 ∷ []) p.2))
-
-pub faults_go_class : (ticks : ℕ) (name : List ℕ) (others : List (List ℕ)) → ticks < 2 ^ 64 → (IsName name → ⊥) → FaultsAt (codes "go" ∷ codes "--ticks" ∷ decimal ticks ∷ name ∷ others) 3
-faults_go_class ticks name others fits no_name =
-    faults_at_word (codes "go" ∷ codes "--ticks" ∷ decimal ticks ∷ []) name others (begins_go_ticks ticks fits) (λ more command is.
-    let p = go_second (decimal ticks ∷ name ∷ more) command is in
-    no_name (subst IsName (head_is name p.1 more [] (tail_is (decimal ticks) (decimal p.0) (name ∷ more) (p.1 ∷ []) p.2)) p.4))
-
-pub faults_go_rest : (ticks : ℕ) (name word : List ℕ) (others : List (List ℕ)) → ticks < 2 ^ 64 → IsName name → FaultsAt (codes "go" ∷ codes "--ticks" ∷ decimal ticks ∷ name ∷ word ∷ others) 4
-faults_go_rest ticks name word others fits is_name =
-    faults_at_word (codes "go" ∷ codes "--ticks" ∷ decimal ticks ∷ name ∷ []) word others (begins_go_class ticks name fits is_name) (λ more command is.
-    let p = go_second (decimal ticks ∷ name ∷ word ∷ more) command is in
-    item_is_none word more (tail_is name p.1 (word ∷ more) [] (tail_is (decimal ticks) (decimal p.0) (name ∷ word ∷ more) (p.1 ∷ []) p.2)))
+    take_all : (all : List (List ℕ)) → take (length all) all ≡ all
+    take_all [] = refl
+    take_all (word ∷ all) = ap (λ (rest : List (List ℕ)). word ∷ rest) (take_all all)

@@ -1,5 +1,5 @@
 -- The words of what a call promises.
-use Rattle.std.specs.Prelude.{◌≡◌, ℕ, ◌≤◌, ◌⊎◌, List, [], ◌∷◌, ◌++◌, Option, Some, None, slice_get}
+use Rattle.std.specs.Prelude.{◌≡◌, ℕ, ◌≤◌, ◌⊎◌, List, ◌++◌, Option, Some, None, slice_get}
 use Rattle.std.specs.FinMap.{get, insert}
 use Rattle.dialogue.specs.Answers as gets
 use Rattle.dialogue.specs.Answers.{MayGive}
@@ -15,45 +15,44 @@ use Rattle.image_form.specs.Format.{encoding}
 use Rattle.mote_model.specs.declared.ending.Ending.{Ending}
 use Rattle.mote_model.specs.Machine.{LimitedSo}
 use Rattle.jvm_model.specs.Machine as typed
+use Rattle.jvm_model.specs.Phases.{saturated}
 use Rattle.jvm_model.specs.SetImage.{IsImageOf}
 use Rattle.jvm_model.specs.SetRun.{LimitedRun}
 use Rattle.jvm_model.specs.Verdict.{Accepted}
 use Rattle.mote_top.specs.declared.status.ImageRefusal.{ImageRefusal}
 use Rattle.mote_top.specs.declared.status.Status.{Status}
 use Rattle.mote_top.specs.declared.status.Status.TheVariants.{Done, Infusion, ConsoleFault, ShelfFault, Memory}
-use Rattle.mote_top.specs.Words.{IsName, infuse_of, run_of, go_of, limits_of, FitsOption}
+use Rattle.mote_top.specs.Words.{IsName, AreNames, Setting, AreOptions, infuse_of, run_of, go_of, limits_of}
 use Rattle.mote_top.specs.Status.{note_of}
 use Rattle.mote_top.specs.Endings.{typed_status, split_status}
 use Rattle.mote_top.specs.Call.{Shelved, Call, After}
 use Rattle.mote_top.specs.Answer.{Answers, Untouched}
-use Rattle.mote_top.specs.Reply.{HasAt, IsNoInfusion, IsInfusion, Loads, MayReply, all_said, left_of}
+use Rattle.mote_top.specs.Reply.{HaveAll, IsNoInfusion, IsInfusion, Loads, MayReply, all_said, left_of}
 
 -- ---- what a call is
 
--- the words are go, and what is kept at the name is this set
+-- the words are go, and what is kept at its classes' names is this set
 pub record GoesOn (call : Call) (files : List (List ℕ)) (limits : Limits) : Type 0 where
   pub kept : Files
   pub tells : call.shelf.kept ≡ Some kept
-  pub option : Option ℕ
-  pub name : List ℕ
-  pub command : call.words ≡ go_of option name
-  pub is_name : IsName name
-  pub fits : FitsOption option
-  pub limits_are : limits ≡ limits_of option
-  pub bytes : List ℕ
-  pub files_are : files ≡ bytes ∷ []
-  pub found : get kept name ≡ Some bytes
+  pub settings : List Setting
+  pub classes : List (List ℕ)
+  pub command : call.words ≡ go_of settings classes
+  pub options : AreOptions settings
+  pub are_classes : AreNames classes
+  pub limits_are : limits ≡ limits_of settings
+  pub found : HaveAll (Some kept) classes files
 
 -- the words are run, and these bytes are kept at the name
 pub record RunsOn (call : Call) (bytes : List ℕ) (limits : Limits) : Type 0 where
   pub kept : Files
   pub tells : call.shelf.kept ≡ Some kept
-  pub option : Option ℕ
+  pub settings : List Setting
   pub name : List ℕ
-  pub command : call.words ≡ run_of name option
+  pub command : call.words ≡ run_of name settings
   pub is_name : IsName name
-  pub fits : FitsOption option
-  pub limits_are : limits ≡ limits_of option
+  pub options : AreOptions settings
+  pub limits_are : limits ≡ limits_of settings
   pub found : get kept name ≡ Some bytes
 
 -- the words are run of the infusion of this set
@@ -62,17 +61,15 @@ pub record RunsInfusionOf (call : Call) (files : List (List ℕ)) (limits : Limi
   pub is_image : IsImageOf files image
   pub runs : RunsOn call (encoding image) limits
 
--- the words are infuse to this name, and what is kept at the class's name is this set
+-- the words are infuse to this name, and what is kept at the classes' names is this set
 pub record InfusesTo (call : Call) (files : List (List ℕ)) (out : List ℕ) : Type 0 where
   pub kept : Files
   pub tells : call.shelf.kept ≡ Some kept
-  pub class : List ℕ
-  pub command : call.words ≡ infuse_of out class
+  pub classes : List (List ℕ)
+  pub command : call.words ≡ infuse_of out classes
   pub is_out : IsName out
-  pub is_class : IsName class
-  pub bytes : List ℕ
-  pub files_are : files ≡ bytes ∷ []
-  pub found : get kept class ≡ Some bytes
+  pub are_classes : AreNames classes
+  pub found : HaveAll (Some kept) classes files
 
 -- the words run this set: go of its files, or run of its infusion
 abbrev pub RunsSet : Call → List (List ℕ) → Limits → Type 0
@@ -145,14 +142,17 @@ pub record StoresInfusion (call : Call) (after : After) (files : List (List ℕ)
 
 -- the words store at this name, which is at place 1
 abbrev pub Stores : List (List ℕ) → List ℕ → ℕ → Type 0
-Stores words name place = (place ≡ 1) × (class : List ℕ) × (words ≡ infuse_of name class)
+Stores words name place = (place ≡ 1) × (classes : List (List ℕ)) × (words ≡ infuse_of name classes)
 
--- in this call the shelf failed for the name at this place: a store where the words store at it, else a load
+-- in this call the shelf failed for the name at a place, which is this as a status has it: a store where the
+-- words store at it, else a load
 pub record ShelfFailed (call : Call) (after : After) (word : ℕ) : Type 0 where
   pub name : List ℕ
-  pub there : slice_get call.words word ≡ Some name
-  pub rose : (Stores call.words name word × Rose (call.shelf.store_faults name) (after.shelf.store_faults name))
-      ⊎ (Loads call.words name word × Rose (call.shelf.load_faults name) (after.shelf.load_faults name))
+  pub place : ℕ
+  pub word_is : word ≡ saturated place
+  pub there : slice_get call.words place ≡ Some name
+  pub rose : (Stores call.words name place × Rose (call.shelf.store_faults name) (after.shelf.store_faults name))
+      ⊎ (Loads call.words name place × Rose (call.shelf.load_faults name) (after.shelf.load_faults name))
 
 -- in this call the console failed: where it tells its room, that was full
 pub record ConsoleFailed (call : Call) (after : After) : Type 0 where
@@ -171,11 +171,11 @@ HasCause call after _ = Unit {0}
 -- the words are infuse of an accepted set, and the shelf changed what it keeps at its name alone
 pub record ChangesOut (words : List (List ℕ)) (kept now : Option Files) : Type 0 where
   pub out : List ℕ
-  pub class : List ℕ
-  pub command : words ≡ infuse_of out class
-  pub bytes : List ℕ
-  pub found : HasAt kept class bytes
-  pub accepted : Accepted (bytes ∷ [])
+  pub classes : List (List ℕ)
+  pub command : words ≡ infuse_of out classes
+  pub files : List (List ℕ)
+  pub found : HaveAll kept classes files
+  pub accepted : Accepted files
   pub others : ChangesOnly out kept now
 
 -- only infuse of an accepted set changes what is kept, and only at its name

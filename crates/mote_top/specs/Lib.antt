@@ -1,5 +1,6 @@
 pub mod Call
 pub mod Words
+pub mod Parts
 pub mod Status
 pub mod Endings
 pub mod Reply

@@ -1,5 +1,5 @@
 -- What a call may reply, as a relation of the call, what the shelf keeps after it, and what a run may use.
-use Rattle.std.specs.Prelude.{◌≡◌, ◌⊎◌, ℕ, List, [], ◌∷◌, ◌++◌, Option, Some, option_map, IfSome}
+use Rattle.std.specs.Prelude.{◌≡◌, ◌⊎◌, ℕ, ◌+◌, List, [], ◌∷◌, ◌++◌, Option, Some, option_map, IfSome, slice_get}
 use Rattle.std.specs.FinMap.{get, insert}
 use Rattle.dialogue.specs.Answers.{Answers, bytes_of, MayGive}
 use Rattle.dialogue.specs.Dialogue.{Item, noting}
@@ -20,12 +20,13 @@ use Rattle.jvm_model.specs.declared.refusal.Refusal.{Refusal}
 use Rattle.mote_model.specs.declared.ending.Ending.{Ending}
 use Rattle.mote_model.specs.Machine.{LimitedSo}
 use Rattle.jvm_model.specs.SetRun.{LimitedRun}
+use Rattle.jvm_model.specs.Phases.{saturated}
 use Rattle.jvm_model.specs.SetImage.{IsImageOf}
 use Rattle.jvm_model.specs.Verdict.{Accepted, IsRefused}
 use Rattle.mote_top.specs.declared.status.Status.{Status}
 use Rattle.mote_top.specs.declared.status.Status.TheVariants.{Done, Uncaught, Words, Refused, Infusion, Spent, StackWanted, ShelfFault}
 use Rattle.mote_top.specs.declared.status.ImageRefusal.{ImageRefusal}
-use Rattle.mote_top.specs.Words.{IsName, infuse_of, run_of, go_of, class_place, limits_of, FitsOption, FaultsAt}
+use Rattle.mote_top.specs.Words.{IsName, AreNames, Setting, AreOptions, infuse_of, run_of, go_of, class_place, limits_of, FaultsAt}
 use Rattle.mote_top.specs.Status.{note_of}
 use Rattle.mote_top.specs.Endings.{typed_status, split_status, form_refusal, check_refusal}
 use Rattle.mote_top.specs.Call.{Shelved, Call}
@@ -58,6 +59,12 @@ IsRunEnd _ = ⊥
 -- these bytes are kept at the name, where the shelf tells what it keeps
 abbrev pub HasAt : Option Files → (name bytes : List ℕ) → Type 0
 HasAt kept name bytes = IfSome kept (λ files. get files name ≡ Some bytes)
+
+-- these bytes are kept at these names, one by one
+abbrev pub HaveAll : Option Files → (names files : List (List ℕ)) → Type 0
+HaveAll kept [] [] = Unit {0}
+HaveAll kept (name ∷ names) (bytes ∷ files) = HasAt kept name bytes × HaveAll kept names files
+HaveAll kept _ _ = ⊥
 
 -- ---- sets of class files
 
@@ -174,25 +181,25 @@ pub record FaultsIn (call : Call) (shelf : Shelved) (reply : Reply) : Type 0 whe
 
 -- go on these files
 pub record Goes (call : Call) (shelf : Shelved) (limits : Limits) (reply : Reply) : Type 0 where
-  pub option : Option ℕ
-  pub name : List ℕ
-  pub command : call.words ≡ go_of option name
-  pub is_name : IsName name
-  pub fits : FitsOption option
-  pub limits_are : limits ≡ limits_of option
-  pub bytes : List ℕ
-  pub found : HasAt call.shelf.kept name bytes
+  pub settings : List Setting
+  pub classes : List (List ℕ)
+  pub command : call.words ≡ go_of settings classes
+  pub options : AreOptions settings
+  pub are_classes : AreNames classes
+  pub limits_are : limits ≡ limits_of settings
+  pub files : List (List ℕ)
+  pub found : HaveAll call.shelf.kept classes files
   pub same : shelf.kept ≡ call.shelf.kept
-  pub replies : SetReplies (bytes ∷ []) limits call.console.left reply
+  pub replies : SetReplies files limits call.console.left reply
 
 -- run of this infusion
 pub record Runs (call : Call) (shelf : Shelved) (limits : Limits) (reply : Reply) : Type 0 where
-  pub option : Option ℕ
+  pub settings : List Setting
   pub name : List ℕ
-  pub command : call.words ≡ run_of name option
+  pub command : call.words ≡ run_of name settings
   pub is_name : IsName name
-  pub fits : FitsOption option
-  pub limits_are : limits ≡ limits_of option
+  pub options : AreOptions settings
+  pub limits_are : limits ≡ limits_of settings
   pub bytes : List ℕ
   pub found : HasAt call.shelf.kept name bytes
   pub same : shelf.kept ≡ call.shelf.kept
@@ -201,20 +208,28 @@ pub record Runs (call : Call) (shelf : Shelved) (limits : Limits) (reply : Reply
 -- infuse of these files
 pub record Infuses (call : Call) (shelf : Shelved) (reply : Reply) : Type 0 where
   pub out : List ℕ
-  pub class : List ℕ
-  pub command : call.words ≡ infuse_of out class
+  pub classes : List (List ℕ)
+  pub command : call.words ≡ infuse_of out classes
   pub is_out : IsName out
-  pub is_class : IsName class
-  pub bytes : List ℕ
-  pub found : HasAt call.shelf.kept class bytes
-  pub replies : StoreReplies (bytes ∷ []) out call.shelf.kept shelf.kept call.console.left reply
+  pub are_classes : AreNames classes
+  pub files : List (List ℕ)
+  pub found : HaveAll call.shelf.kept classes files
+  pub replies : StoreReplies files out call.shelf.kept shelf.kept call.console.left reply
+
+-- the words load these names, of which the first is at this place
+pub data LoadsFrom (words : List (List ℕ)) : List (List ℕ) → ℕ → Type 0 where
+  OfGo : (settings : List Setting) (classes : List (List ℕ)) → words ≡ go_of settings classes → AreOptions settings → AreNames classes → LoadsFrom words classes (class_place settings)
+  OfRun : (name : List ℕ) (settings : List Setting) → words ≡ run_of name settings → IsName name → AreOptions settings → LoadsFrom words (name ∷ []) 1
+  OfInfuse : (out : List ℕ) (classes : List (List ℕ)) → words ≡ infuse_of out classes → IsName out → AreNames classes → LoadsFrom words classes 2
 
 -- the name at a place is one that the words load
-abbrev pub Loads : List (List ℕ) → List ℕ → ℕ → Type 0
-Loads words name place =
-    ((option : Option ℕ) × (words ≡ go_of option name) × FitsOption option × IsName name × (place ≡ class_place option))
-    ⊎ (((option : Option ℕ) × (words ≡ run_of name option) × FitsOption option × IsName name × (place ≡ 1))
-    ⊎ ((out : List ℕ) × (words ≡ infuse_of out name) × IsName out × IsName name × (place ≡ 2)))
+pub record Loads (words : List (List ℕ)) (name : List ℕ) (place : ℕ) : Type 0 where
+  pub names : List (List ℕ)
+  pub first : ℕ
+  pub from : LoadsFrom words names first
+  pub at : ℕ
+  pub there : slice_get names at ≡ Some name
+  pub place_is : place ≡ first + at
 
 -- a load failed: the shelf's count for its name rose, and nothing changed
 pub record FailsLoad (call : Call) (shelf : Shelved) (reply : Reply) : Type 0 where
@@ -223,18 +238,18 @@ pub record FailsLoad (call : Call) (shelf : Shelved) (reply : Reply) : Type 0 wh
   pub loads : Loads call.words name place
   pub rose : Rose (call.shelf.load_faults name) (shelf.load_faults name)
   pub same : shelf.kept ≡ call.shelf.kept
-  pub is : reply ≡ quiet (ShelfFault place) call.console.left
+  pub is : reply ≡ quiet (ShelfFault (saturated place)) call.console.left
 
 -- the store failed: the shelf's count for its name rose, and no other name changed
 pub record FailsStore (call : Call) (shelf : Shelved) (reply : Reply) : Type 0 where
   pub out : List ℕ
-  pub class : List ℕ
-  pub command : call.words ≡ infuse_of out class
+  pub classes : List (List ℕ)
+  pub command : call.words ≡ infuse_of out classes
   pub is_out : IsName out
-  pub is_class : IsName class
-  pub bytes : List ℕ
-  pub found : HasAt call.shelf.kept class bytes
-  pub accepted : Accepted (bytes ∷ [])
+  pub are_classes : AreNames classes
+  pub files : List (List ℕ)
+  pub found : HaveAll call.shelf.kept classes files
+  pub accepted : Accepted files
   pub rose : Rose (call.shelf.store_faults out) (shelf.store_faults out)
   pub others : ChangesOnly out call.shelf.kept shelf.kept
   pub is : reply ≡ quiet (ShelfFault 1) call.console.left

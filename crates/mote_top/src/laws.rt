@@ -1,10 +1,10 @@
-ghost use Rattle.std.specs.Prelude.{◌≡◌, ◌≢◌, ℕ, List, Option};
+ghost use Rattle.std.specs.Prelude.{◌≡◌, ◌≢◌, ℕ, List};
 ghost use Rattle.image_form.specs.declared.record.Image.{Image};
 ghost use Rattle.jvm_model.specs.declared.refusal.Refusal.{Refusal};
 ghost use Rattle.jvm_model.specs.Verdict.{IsRefused};
 ghost use Rattle.mote_top.specs.declared.status.ImageRefusal.{ImageRefusal};
 ghost use Rattle.mote_top.specs.declared.status.Status.TheVariants.{Memory as NoMemory};
-ghost use Rattle.mote_top.specs.Words.{IsName, FitsOption, run_of, limits_of};
+ghost use Rattle.mote_top.specs.Words.{IsName, Setting, AreOptions, run_of, limits_of};
 ghost use Rattle.mote_top.specs.Call.{Call, After};
 ghost use Rattle.mote_top.specs.Reply.{IsInfusion, IsNoInfusion};
 ghost use Rattle.mote_top.specs.Headline.{RunsSet, InfusesTo, StoresInfusion, IsAnswer, NoneRose};
@@ -19,8 +19,8 @@ pub fn infusions_are_one_or_none()
 
 /// A `run` that finds what an `infuse` stored for a set runs the set, so the headline is of it too.
 pub fn stored_sets_run()
-    ensures { (first second : Call) (between : After) (files : List (List ℕ)) (out : List ℕ) (option : Option ℕ) → StoresInfusion first between files out
-        → second.shelf.kept ≡ between.shelf.kept → second.words ≡ run_of out option → IsName out → FitsOption option → RunsSet second files (limits_of option) }
+    ensures { (first second : Call) (between : After) (files : List (List ℕ)) (out : List ℕ) (settings : List Setting) → StoresInfusion first between files out
+        → second.shelf.kept ≡ between.shelf.kept → second.words ≡ run_of out settings → IsName out → AreOptions settings → RunsSet second files (limits_of settings) }
 {}
 
 /// A refused set leaves all that is kept, whatever the call answers.

@@ -1,6 +1,6 @@
 //! Runs class files and infusions on the mote machine.
 
-ghost use Rattle.std.specs.Prelude.{◌≡◌, ◌≤◌, ◌∷◌, [], vec_capacity, length};
+ghost use Rattle.std.specs.Prelude.{◌≡◌, ◌≤◌, [], map, vec_capacity, length};
 ghost use Rattle.image_form.specs.SmallForm.{IsSmall};
 ghost use Rattle.jvm_model.specs.declared.refusal.Cause.TheVariants.{Memory as NoMemory};
 ghost use Rattle.image_form.specs.declared.refusal.FormRefusal.TheVariants.{Memory as NoFormMemory};
@@ -27,20 +27,19 @@ use std::alloc::Global;
 /// No name of a class has more bytes.
 const MOST_NAME: usize = 65_535;
 
-/// Infuses the class file that the bytes are, and runs it; or says why it is refused. Its image is
-/// checked, so the check answers it unless there is no memory.
-pub(crate) fn run_class<C: Console>(
+/// Infuses the class files, and runs the infusion; or says why they are refused. The image is checked, so the
+/// check answers it unless there is no memory.
+pub(crate) fn run_classes<C: Console>(
     alloc: Global,
-    bytes: Vec<u8>,
+    files: &[Vec<u8>],
     opts: Opts,
     console: &mut C,
 ) -> Status
     requires sizes { HasSizes opts }
-    ensures { Answers dialogue_of (SetReplies (bytes.items ∷ []) (limits_in opts) (C.left console.old))
+    ensures { Answers dialogue_of (SetReplies (map (λ v. v.items) files.now) (limits_in opts) (C.left console.old))
         (spoken C.left C.shown C.noted C.faults C.room console.old) (spoken C.left C.shown C.noted C.faults C.room console.new) result }
 {
-    let files = [bytes];
-    let image = match infuse(alloc, &files) {
+    let image = match infuse(alloc, files) {
         Ok(image) => image,
         Err(refusal) => return refused(refusal),
     };

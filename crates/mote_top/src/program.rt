@@ -11,9 +11,9 @@ use std::alloc::Global;
 /// Does all that the program does: reads the words, which exclude the program's name, does what the
 /// command says over the shelf and the console, and notes the line of the status.
 ///
-/// The words are `infuse OUT CLASS`, `run INFUSION OPTIONS` or `go OPTIONS CLASS`, where OPTIONS are
-/// `--ticks N` or nothing. The heap has 4,096 cells, the stack 1,024, and the budget is 100,000,000 ticks
-/// unless it is given.
+/// The words are `infuse OUT CLASS CLASS ..`, `run INFUSION OPTIONS` or `go OPTIONS CLASS CLASS ..`, where
+/// OPTIONS are `--stack N` and `--ticks N`, in any order, each once at most. The heap has 4,096 cells; the
+/// stack has 1,024 and the budget is 100,000,000 ticks unless they are given.
 ///
 /// What each call promises stands in `specs/Promises.antt`: what it replies, the headline, refusals of
 /// sets, what `infuse` stores, what `run` does with bytes, words at fault, the causes of faults, and what

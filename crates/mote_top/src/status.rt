@@ -38,7 +38,8 @@ pub enum Status {
     /// A throw had no handler in any frame: `class` is the name of the thrown object's class.
     Uncaught { class: Items<u8> },
     /// The words are no command: `place` is the first place at which no command goes on as they do,
-    /// or the number of words where all of them begin a command.
+    /// or the number of words where all of them begin a command. A place beyond the field is its greatest
+    /// number.
     Words { place: u32 },
     /// The set of class files is not accepted.
     Refused(Refusal),
@@ -52,7 +53,8 @@ pub enum Status {
     StackWanted { need: u32, used: u32 },
     /// A call on the console failed.
     ConsoleFault,
-    /// A load or the store failed: `word` is the place of the name among the words.
+    /// A load or the store failed: `word` is the place of the name among the words, or the field's greatest
+    /// number where that is beyond.
     ShelfFault { word: u32 },
     /// An object lacked a place.
     Misfit { class: u16, place: u16 },

@@ -1,4 +1,4 @@
-use Rattle.std.proofs.Common.{None, map, refl, subst}
+use Rattle.std.proofs.Common.{[], map, refl, subst}
 use Rattle.std.specs.String.{string_bytes}
 use Rattle.mote_top.specs.declared.status.Status.TheVariants.{Words}
 use Rattle.mote_top.specs.declared.words.Opts.{Opts}
@@ -32,7 +32,7 @@ returns-in-Err-clause-replied g c =
     let before = shelved S.kept S.load_faults S.store_faults c.args.shelf.now in
     let old = spoken C.left C.shown C.noted C.faults C.room c.args.console.now in
     let new = spoken C.left C.shown C.noted C.faults C.room c.noted-in-Err.new.console in
-    let limits = limits_in (opts_of None) in
+    let limits = limits_in (opts_of []) in
     let place = c.in-Err.fault.place in
     let quiet = Replied-quiet (MayReply (call words before old) before limits) old (Words place) (words_may words place limits c.in-Err.ensures before before old refl) in
     record { limits = limits; answers = Answers-noted limits (MayReply (call words before old) before limits) old old new (Words place) c.noted-in-Err.result quiet c.noted-in-Err.ensures }

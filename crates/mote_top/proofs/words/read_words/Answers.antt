@@ -1,18 +1,36 @@
-use Rattle.std.proofs.Common.{map, ◌∙◌, arith}
-use Rattle.std.specs.Prelude.{codes}
+use Rattle.std.proofs.Common.{◌+◌, ◌<◌, ◌≤◌, [], ◌∷◌, length, take, map, ap, sym, subst, ◌∙◌}
 use Rattle.std.specs.String.{string_bytes}
-use Rattle.std.proofs.lemmas.List.{nil_from_length}
-use Rattle.mote_top.proofs.WordFaults.{faults_none, faults_first}
-use Rattle.mote_top.proofs.WordTests.{word-is_not}
+use Rattle.std.proofs.lemmas.List.{length-map}
+use Rattle.jvm_model.specs.Phases.{saturated}
+use Rattle.mote_top.proofs.WordSteps.{word_more, part_more, none_more, all_words, none_at_end, fault_there}
 use Rattle.mote_top.proofs.words.read_words.Goals as goal
 
-pub returns-in_default : goal.returns-in_default
-returns-in_default c = rw (nil_from_length c.args.words.now (omega (arith, c.in_default.ensures.cases))) faults_none
+pub returns-in-None : goal.returns-in-None
+returns-in-None c =
+    let words = map string_bytes c.args.words.now in
+    let place = c.loop-place.place in
+    let text = c.as_str.result.now in
+    let more = word_more string_bytes c.args.words.now place c.index-words-place.result text c.loop-place-test.true c.index-words-place.is c.as_str.ensures.value in
+    let less = subst (λ n. place < n) (sym (length-map c.args.words.now string_bytes)) c.loop-place-test.true in
+    fault_there words place c.fault_at.result.place (none_more words place (text ∷ []) c.loop-place.part less c.in-None.ensures c.loop-place.invariant more) c.fault_at.ensures
 
-pub returns-else-eq-3 : goal.returns-else-eq-3
-returns-else-eq-3 c =
-    let a = word-is_not c.as_str-first.result.now (codes "infuse") c.eq.result c.eq.ensures c.if-eq.false in
-    let b = word-is_not c.as_str-first.result.now (codes "run") c.eq-else-eq.result c.eq-else-eq.ensures c.if-eq-2.false in
-    let d = word-is_not c.as_str-first.result.now (codes "go") c.eq-else-eq-2.result c.eq-else-eq-2.ensures c.if-eq-3.false in
-    rw c.in-Some.ensures.cases.0 (faults_first (string_bytes c.in-Some.first.now) (map string_bytes c.in-Some.rest.now)
-    (λ is. a (c.as_str-first.ensures.value ∙ is)) (λ is. b (c.as_str-first.ensures.value ∙ is)) (λ is. d (c.as_str-first.ensures.value ∙ is)))
+pub loop-place-preserved : goal.loop-place-preserved
+loop-place-preserved c =
+    let words = map string_bytes c.args.words.now in
+    let place = c.loop-place.place in
+    let text = c.as_str.result.now in
+    let more = word_more string_bytes c.args.words.now place c.index-words-place.result text c.loop-place-test.true c.index-words-place.is c.as_str.ensures.value in
+    part_more (take (place + 1) words) (take place words) (text ∷ []) c.loop-place.part c.in-Some.next c.in-Some.ensures c.loop-place.invariant more
+
+pub returns-in-Some-command : goal.returns-in-Some-command
+returns-in-Some-command c =
+    let words = map string_bytes c.args.words.now in
+    let all = all_words words c.loop-place.place c.loop-place.part (subst (λ n. n ≤ c.loop-place.place) (sym (length-map c.args.words.now string_bytes)) c.loop-place-test.false) c.loop-place.invariant in
+    c.in-Some-command.ensures words all
+
+pub returns-in-None-command : goal.returns-in-None-command
+returns-in-None-command c =
+    let words = map string_bytes c.args.words.now in
+    let all = all_words words c.loop-place.place c.loop-place.part (subst (λ n. n ≤ c.loop-place.place) (sym (length-map c.args.words.now string_bytes)) c.loop-place-test.false) c.loop-place.invariant in
+    fault_there words (length words) c.fault_at-in-None-command.result.place (none_at_end words c.loop-place.part all (c.in-None-command.ensures words all))
+    (c.fault_at-in-None-command.ensures ∙ ap (λ n. saturated n) (sym (length-map c.args.words.now string_bytes)))

@@ -1,4 +1,4 @@
-use Rattle.std.proofs.Common.{◌≡◌, ◌∷◌, [], sym, subst}
+use Rattle.std.proofs.Common.{Vec, Global, ◌≡◌, ℕ, map, sym, subst}
 use Rattle.image_form.specs.declared.record.Image.{Image}
 use Rattle.image_check.specs.declared.refusal.CheckCause.TheVariants.{Memory as NoCheckMemory}
 use Rattle.infuse_link.proofs.AcceptedSets.{set_image, set_checked, set_built}
@@ -10,16 +10,16 @@ use Rattle.mote_top.specs.Reply.{Reply, RunsImage, SetReplies, dialogue_of}
 use Rattle.mote_top.specs.Answer.{Answers}
 use Rattle.mote_top.proofs.Answering.{Answers-weaker, Answers-quiet, untouched}
 use Rattle.mote_top.proofs.Sets.{set_runs, refused_status, refused_may}
-use Rattle.mote_top.proofs.machine.run_class.Goals as goal
+use Rattle.mote_top.proofs.machine.run_classes.Goals as goal
 
 pub check-requires : goal.check-requires
-check-requires g c = set_image (c.args.bytes.items ∷ []) c.in-Ok.image c.in-Ok.ensures.found
+check-requires g c = set_image (map (λ (v : Vec ℕ Global). v.items) c.args.files.now) c.in-Ok.image c.in-Ok.ensures.found
 
 -- the image of an accepted set is checked, so there was no memory for the check
-pub returns : goal.returns
-returns g c =
+pub returns-in-Err-check : goal.returns-in-Err-check
+returns-in-Err-check g c =
     let C = g.C.Console in
-    let files = c.args.bytes.items ∷ [] in
+    let files = map (λ (v : Vec ℕ Global). v.items) c.args.files.now in
     let found = c.in-Ok.ensures.found in
     let console = spoken C.left C.shown C.noted C.faults C.room c.args.console.now in
     let memory : c.in-Err-check.refusal.cause ≡ NoCheckMemory = c.in-Err-check.ensures.only (set_checked files c.in-Ok.image found) (set_built files c.in-Ok.image found) in
@@ -29,7 +29,7 @@ returns g c =
 pub returns-in-Err : goal.returns-in-Err
 returns-in-Err g c =
     let C = g.C.Console in
-    let files = c.args.bytes.items ∷ [] in
+    let files = map (λ (v : Vec ℕ Global). v.items) c.args.files.now in
     let limits = limits_in c.args.opts in
     let status = refused_status files c.in-Err.refusal c.refused.result c.refused.ensures.memory c.refused.ensures.other c.in-Err.ensures.refused in
     Answers-quiet (λ console reply. SetReplies files limits console.left reply) (spoken C.left C.shown C.noted C.faults C.room c.args.console.now) c.refused.result (refused_may files limits c.refused.result status)
@@ -37,7 +37,7 @@ returns-in-Err g c =
 pub returns-in-Ok-check : goal.returns-in-Ok-check
 returns-in-Ok-check g c =
     let C = g.C.Console in
-    let files = c.args.bytes.items ∷ [] in
+    let files = map (λ (v : Vec ℕ Global). v.items) c.args.files.now in
     let left = C.left c.args.console.now in
     let limits = limits_in c.args.opts in
     let image : c.in-Ok-check.checked ≡ c.in-Ok.image = c.in-Ok-check.ensures.found.0 in
