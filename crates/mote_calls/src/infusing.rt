@@ -27,11 +27,15 @@ fn refused(cause: Cause, value: u32) -> Refusal {
 fn refuses_sets_that_are_not_one_class(rt: HostRuntime) -> Result<(), Fail> {
     let mut files = Vec::new(rt.alloc());
     let none = infuse(rt.alloc(), &files).err();
-    assert_eq!(rt; none, Some(refused(Cause::Unbuilt, 0)));
+    assert_eq!(rt; none, Some(refused(Cause::NoMain, 0)));
     files.push(Vec::from_slice(rt.alloc(), HI)?)?;
     files.push(Vec::from_slice(rt.alloc(), HI)?)?;
     let two = infuse(rt.alloc(), &files).err();
-    assert_eq!(rt; two, Some(refused(Cause::Unbuilt, 0)));
+    let second = Refusal {
+        file: 1,
+        ..refused(Cause::Duplicate, 0)
+    };
+    assert_eq!(rt; two, Some(second));
     files.push(Vec::from_slice(rt.alloc(), b"\xca\xfe\xba")?)?;
     let cut = infuse(rt.alloc(), &files).err();
     let third = Refusal {

@@ -18,7 +18,7 @@ fn is_read_again(
     requires rows_of { AreRowsOf insn rows.now }
 {
     let mut code = Vec::new(alloc);
-    encode(insn, rows, &mut code)?;
+    encode(alloc, insn, rows, &mut code)?;
     assert!(rt; decode_at(&code, 0) == Some((insn, code.len())));
     Ok(())
 }
