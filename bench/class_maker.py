@@ -13,6 +13,8 @@ JUMPS = {
     "goto": 0xA7,
 }
 PUBLIC_STATIC = 0x0009
+PUBLIC_SUPER = 0x0021
+PUBLIC_INTERFACE = 0x0601
 
 
 class Pool:
@@ -100,12 +102,17 @@ def method(pool, name, descriptor, attribute):
     return struct.pack(">HHHH", PUBLIC_STATIC, pool.utf8(name), pool.utf8(descriptor), 1) + attribute
 
 
-def class_bytes(pool, name, methods, fields=(), attributes=()):
-    """A public class below Object of version 49, for which no StackMapTable is asked."""
-    this, above = pool.class_(name), pool.class_("java/lang/Object")
+def class_bytes(
+    pool, name, methods, fields=(), attributes=(), above="java/lang/Object", interfaces=(),
+    flags=PUBLIC_SUPER,
+):
+    """A public class of version 49, for which no StackMapTable is asked."""
+    this, above = pool.class_(name), pool.class_(above)
+    beside = [pool.class_(interface) for interface in interfaces]
     named = [(pool.utf8(attribute), content) for attribute, content in attributes]
     parts = [struct.pack(">IHH", 0xCAFEBABE, 0, 49), pool.encoding()]
-    parts.append(struct.pack(">HHHH", 0x0021, this, above, 0))
+    parts.append(struct.pack(">HHHH", flags, this, above, len(beside)))
+    parts += [struct.pack(">H", interface) for interface in beside]
     parts.append(struct.pack(">H", len(fields)) + b"".join(fields))
     parts.append(struct.pack(">H", len(methods)) + b"".join(methods))
     parts.append(struct.pack(">H", len(named)))

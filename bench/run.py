@@ -152,7 +152,64 @@ def infusing(size):
     classes = [sized_class("Bench", min(size, most))]
     classes += [sized_class("Bench%d" % k, most, with_main=False) for k in range(1, count)]
     name = "infusing, %d class%s" % (count, "" if count == 1 else "es")
-    return Case(name, size, "byte", classes, words=("infuse", "out.infusion"))
+    wanted = (0,) if count == 1 else (3,)
+    return Case(name, size, "byte", classes, words=("infuse", "out.infusion"), wanted=wanted)
+
+
+def calling_class(name, size):
+    """A class of about so many bytes: static methods that each call others of the class."""
+    pool = make.Pool()
+    count = max(1, size // 85)
+    methods = []
+    for k in range(count):
+        called = ["m%d" % ((k * 31 + other * 7) % count) for other in range(12)]
+        code = make.assemble(pool, [("invokestatic", name, to, "()V") for to in called] + ["return"])
+        methods.append(make.method(pool, "m%d" % k, "()V", make.code_attribute(pool, code, 0, 0)))
+    code = make.code_attribute(pool, make.assemble(pool, ["return"]), 0, 0)
+    methods.append(make.method(pool, "main", "()V", code))
+    return make.class_bytes(pool, name, methods)
+
+
+def calling(size):
+    count = max(1, size // (1 << 20))
+    classes = [calling_class("Calls%d" % k, 1000000) for k in range(count)]
+    amount = sum(len(content) for content in classes)
+    return Case("resolving calls, %d classes" % count, amount, "byte", classes, wanted=(3,))
+
+
+# ---- many classes
+
+
+def chain(count):
+    """Classes that each stand below the one before."""
+    classes = []
+    for k in range(count):
+        pool = make.Pool()
+        code = make.code_attribute(pool, b"\xb1", 0, 0)
+        methods = [make.method(pool, "main", "()V", code)]
+        above = "C%d" % (k - 1) if k else "java/lang/Object"
+        classes.append(make.class_bytes(pool, "C%d" % k, methods, above=above))
+    return Case("a chain of %d classes" % count, count, "class", classes, wanted=(3,))
+
+
+def diamonds(levels):
+    """Two interfaces a level that each extend both of the level below, and a method that none has."""
+    classes = []
+    for level in range(levels):
+        below = ["L%d_%d" % (level - 1, side) for side in range(2)] if level else []
+        for side in range(2):
+            classes.append(
+                make.class_bytes(
+                    make.Pool(), "L%d_%d" % (level, side), [], interfaces=below,
+                    flags=make.PUBLIC_INTERFACE,
+                )
+            )
+    pool = make.Pool()
+    code = make.assemble(pool, [("invokestatic", "Top", "missing", "()V"), "return"])
+    methods = [make.method(pool, "main", "()V", make.code_attribute(pool, code, 0, 0))]
+    beside = ["L%d_%d" % (levels - 1, side) for side in range(2)]
+    classes.append(make.class_bytes(pool, "Top", methods, interfaces=beside))
+    return Case("diamonds, %d levels" % levels, len(classes), "class", classes, wanted=(3,))
 
 
 # ---- classes made to be slow
@@ -200,6 +257,12 @@ def all_cases(steps):
     yield numbers(int(steps / 100))
     for megabytes in (1, 2, 4, 8, 16):
         yield infusing(megabytes << 20)
+    for megabytes in (2, 4, 8, 16):
+        yield calling(megabytes << 20)
+    yield chain(256)
+    yield chain(512)
+    yield chain(513)
+    yield diamonds(60)
     yield many_rows()
     yield many_texts()
     yield many_fields()
