@@ -16,14 +16,11 @@ pub enum VType {
     This,
 }
 
-/// What is known before an instruction: of each local, of each operand, the lowest first, and whether a
-/// constructor has yet to call another one.
+/// What is known before an instruction: of each local, of each operand, the top first, and whether a constructor
+/// has yet to call another one.
 #[derive(Debug, Drop)]
 pub struct VFrame {
     pub locals: Items<VType>,
     pub stack: Items<VType>,
     pub pending: bool,
 }
-
-/// The frames of a body: one for each reachable instruction, with its pc, in order of pc.
-pub type Types = Items<(u32, VFrame)>;

@@ -1,4 +1,3 @@
-mod NamedClasses
 mod TestedAccess
 mod FirstRefusals
 mod Refusing

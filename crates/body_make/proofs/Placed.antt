@@ -71,21 +71,6 @@ module _ (files : List ClassFile) (class : ℕ) (file : ClassFile) (member : ℕ
   family_of op (inl (is, ok)) = IsResolved refl (tells.0 is) ok
   family_of op (inr (is, nop)) = IsNop refl (λ there. absurd (false≢true (sym is ∙ tells.1 there))) nop
 
--- ---- pcs
-
--- the families stand at the pcs of their instructions, which rise
-pub families_rise : (files : List ClassFile) (class : ℕ) (pool : Slots) (ways : Ways) (low : ℕ) (insns : Insns) (ops : Ops) → RiseFrom low insns → AreEach (IsFamily files class pool ways) insns ops → RisesFrom low ops
-families_rise files class pool ways low [] [] rise each = tt
-families_rise files class pool ways low [] (y ∷ ops) rise each = absurd each
-families_rise files class pool ways low (x ∷ insns) [] rise each = absurd each
-families_rise files class pool ways low ((pc, insn) ∷ insns) (y ∷ ops) rise each =
-    let same : y.0 ≡ pc = same_pc each.0 in
-    (omega (arith, rise.0, same), families_rise files class pool ways (suc y.0) insns ops (subst (λ n. RiseFrom (suc n) insns) (sym same) rise.1) each.1)
-  where
-    same_pc : IsFamily files class pool ways (pc, insn) y → y.0 ≡ pc
-    same_pc (IsResolved at _ _) = at
-    same_pc (IsNop at _ _) = at
-
 -- ---- rows
 
 module _ (files : List ClassFile) (class : ℕ) (file : ClassFile) (member index : ℕ) (row : HandlerRow) where

@@ -14,12 +14,12 @@ mod Climbing
 mod Acyclic
 mod SupersAbove
 mod LookupRules
-mod Forest
-mod Superclasses
-mod CommonSuper
-mod RefParts
+pub mod Forest
+pub mod Superclasses
+pub mod CommonSuper
+pub mod RefParts
 mod Merging
-mod MergeLaws
+pub mod MergeLaws
 mod Seen
 mod WayTables
 mod SameWays

@@ -12,8 +12,10 @@ pub mod OneLinking
 pub mod LinkedSets
 pub mod PhaseLists
 pub mod ClosedSets
-pub mod VerdictLaws
-pub mod SetRuns
 pub mod AnswersLeft
 pub mod EarlyPhases
-pub mod NumberSets
+pub mod NamedClasses
+pub mod FamiliesRise
+pub mod BodyNames
+pub mod OneBody
+pub mod StaticsSet

@@ -1,5 +1,5 @@
 -- The bodies of a set: the instructions of each method as families, with what they name resolved.
-use Rattle.std.specs.Prelude.{◌≡◌, ℕ, zero, suc, ◌+◌, Bool, true, false, not, if◌then◌else◌, List, [], ◌∷◌, ◌++◌, Option, Some, None, option_map, option_and_then, Result, Ok, Err}
+use Rattle.std.specs.Prelude.{◌≡◌, ℕ, suc, not, if◌then◌else◌, List, [], ◌∷◌, ◌++◌, Option, Some, None, option_map, option_and_then, Ok}
 use Rattle.std.specs.Option.{option_to_list}
 use Rattle.library.specs.Classes.{first_own}
 use Rattle.class_pool.specs.declared.descriptor.Descriptor.{Descriptor}

@@ -1,5 +1,5 @@
 -- The field that an instruction names, resolved from the class in which it stands (JVMS 5.4.3.2, 6.5).
-use Rattle.std.specs.Prelude.{ℕ, Bool, true, ◌&&◌, not, nat_eq, List, Result, Ok, Err}
+use Rattle.std.specs.Prelude.{ℕ, Bool, true, ◌&&◌, not, nat_eq, List, Ok}
 use Rattle.std.specs.Option.{ok_or}
 use Rattle.class_pool.specs.declared.types.MemberId.{MemberId}
 use Rattle.class_pool.specs.Pool.{Slots}

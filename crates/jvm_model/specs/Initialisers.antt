@@ -1,10 +1,9 @@
 -- The initial values of static fields: constants of fields, and the initialiser of a class, which is a run of
 -- pairs that set static fields of its own class to constants, and then a return.
-use Rattle.std.specs.Prelude.{ℕ, ℤ, zero, suc, Bool, true, false, ◌&&◌, ◌||◌, not, nat_eq, if◌then◌else◌, List, [], ◌∷◌, map, Option, Some, None, is_some, option_map, option_and_then, slice_get}
-use Rattle.std.specs.Option.{option_map_or, option_or}
+use Rattle.std.specs.Prelude.{ℕ, ℤ, Bool, true, false, ◌&&◌, not, if◌then◌else◌, [], ◌∷◌, Option, Some, None, is_some, option_map, option_and_then}
+use Rattle.std.specs.Option.{option_map_or}
 use Rattle.std.specs.List.{list_any}
 use Rattle.std.specs.Str.{bytes_eq}
-use Rattle.class_pool.specs.declared.types.MemberId.{MemberId}
 use Rattle.class_pool.specs.declared.descriptor.Kind.{Kind}
 use Rattle.class_pool.specs.declared.descriptor.Kind.TheVariants as kind
 use Rattle.class_pool.specs.Pool.{Slots, integer_at, utf8_at}
@@ -17,7 +16,7 @@ use Rattle.class_code.specs.declared.insn.Insn.{Insn}
 use Rattle.class_code.specs.declared.insn.Insn.TheVariants as insns
 use Rattle.class_code.specs.Code.{Insns}
 use Rattle.class_tree.specs.Set.{own_name}
-use Rattle.class_tree.specs.Members.{Declaration, in_file, is_called}
+use Rattle.class_tree.specs.Members.{in_file, is_called}
 use Rattle.jvm_model.specs.Resolution.{field_name_at}
 
 -- ---- constants of fields

@@ -1,6 +1,6 @@
 -- The family of an instruction, with what it names resolved from the class in which it stands, or why it is
 -- refused.
-use Rattle.std.specs.Prelude.{ℕ, ◌+◌, Bool, true, false, ◌&&◌, ◌||◌, not, nat_eq, nat_lt, nat_le, if◌then◌else◌, List, [], ◌∷◌, map, Option, Some, None, option_map, Result, Ok, Err}
+use Rattle.std.specs.Prelude.{ℕ, Bool, true, false, ◌&&◌, not, nat_eq, nat_lt, nat_le, if◌then◌else◌, List, Option, Some, None, Ok}
 use Rattle.std.specs.Option.{ok_or}
 use Rattle.class_pool.specs.declared.types.TypeBase.{TypeBase}
 use Rattle.class_pool.specs.declared.types.TypeBase.TheVariants as base
@@ -8,7 +8,6 @@ use Rattle.class_pool.specs.declared.types.TypeRef.{TypeRef}
 use Rattle.class_pool.specs.Pool.{Slots, integer_at}
 use Rattle.class_file.specs.Rules.{is_interface, is_abstract}
 use Rattle.class_file.specs.declared.record.ClassFile.{ClassFile}
-use Rattle.class_file.specs.declared.record.HandlerRow.{HandlerRow}
 use Rattle.class_code.specs.declared.insn.ArrayKind.{ArrayKind}
 use Rattle.class_code.specs.declared.insn.ArrayKind.TheVariants as array
 use Rattle.class_code.specs.declared.insn.Insn.{Insn}
@@ -16,7 +15,6 @@ use Rattle.class_code.specs.declared.insn.Insn.TheVariants as insns
 use Rattle.class_tree.specs.Set.{flags_of}
 use Rattle.class_tree.specs.Subtypes.{array_of}
 use Rattle.class_tree.specs.AccessTests.{is_subclass}
-use Rattle.body_form.specs.declared.op.Literal.{Literal}
 use Rattle.body_form.specs.declared.op.Literal.TheVariants as literal
 use Rattle.body_form.specs.declared.op.UnaryOp.TheVariants as unary
 use Rattle.body_form.specs.declared.op.FieldUse.{FieldUse}

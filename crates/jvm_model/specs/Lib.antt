@@ -25,3 +25,10 @@ pub mod Initialisers
 pub mod Linking
 pub mod Entry
 pub mod Bodies
+pub mod TypesFrames
+pub mod TypesNames
+pub mod TypesRules
+pub mod TypesRight
+pub mod TypesRounds
+pub mod Verification
+pub mod InitialStatics

@@ -1,5 +1,5 @@
 -- The method that a call names, resolved from the class in which the call stands (JVMS 5.4.3.3, 5.4.3.4, 6.5).
-use Rattle.std.specs.Prelude.{ℕ, ◌+◌, Bool, true, false, ◌&&◌, ◌||◌, not, nat_eq, nat_lt, if◌then◌else◌, List, length, Option, Some, None, is_some, slice_get, option_and_then, codes, Result, Ok, Err}
+use Rattle.std.specs.Prelude.{ℕ, ◌+◌, Bool, true, false, ◌&&◌, ◌||◌, not, nat_eq, nat_lt, if◌then◌else◌, List, length, Option, Some, is_some, slice_get, option_and_then, codes, Ok}
 use Rattle.std.specs.Option.{ok_or, option_map_or}
 use Rattle.std.specs.Str.{bytes_eq}
 use Rattle.library.specs.Classes.{first_own}

@@ -1,10 +1,9 @@
 -- What a class may declare beside the methods above it: which methods may stand below which, and which
 -- classes lack a body for a method (JVMS 5.4.5 and the rules of the profile).
-use Rattle.std.specs.Prelude.{◌≡◌, ℕ, zero, suc, ◌+◌, ◌<◌, Bool, true, false, ◌&&◌, ◌||◌, not, nat_eq, nat_lt, if◌then◌else◌, List, [], ◌∷◌, ◌++◌, length, filter, Option, Some, None}
+use Rattle.std.specs.Prelude.{ℕ, Bool, false, ◌&&◌, ◌||◌, not, List, filter}
 use Rattle.std.specs.Option.{option_map_or}
 use Rattle.std.specs.List.{list_any, range_with_len}
 use Rattle.std.specs.Str.{bytes_eq}
-use Rattle.class_pool.specs.declared.types.MemberId.{MemberId}
 use Rattle.class_file.specs.Rules.{is_public, is_abstract, is_interface}
 use Rattle.class_file.specs.declared.record.ClassFile.{ClassFile}
 use Rattle.class_tree.specs.Set.{flags_of}

@@ -1,7 +1,7 @@
 -- What instructions name, resolved from the class in which they stand: types, fields and methods, or why they
 -- are refused. The tests come in one order: the entry of the pool and its tag, then whether what it names is
 -- there, then whether it is of the kind that the instruction asks for, then whether the class may use it.
-use Rattle.std.specs.Prelude.{ℕ, Bool, true, false, ◌&&◌, not, nat_eq, nat_lt, nat_le, if◌then◌else◌, List, Option, Some, None, option_map, option_and_then, Result, Ok, Err}
+use Rattle.std.specs.Prelude.{ℕ, Bool, true, false, not, if◌then◌else◌, List, Option, None, option_map, option_and_then, Result, Ok, Err}
 use Rattle.std.specs.Option.{ok_or}
 use Rattle.class_pool.specs.declared.types.TypeBase.{TypeBase}
 use Rattle.class_pool.specs.declared.types.TypeBase.TheVariants as base

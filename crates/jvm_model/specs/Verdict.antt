@@ -7,6 +7,7 @@ use Rattle.jvm_model.specs.Phases.{SetSize, Reading, MethodCode}
 use Rattle.jvm_model.specs.ClosedSet.{ClosedSet}
 use Rattle.jvm_model.specs.Linking.{Members}
 use Rattle.jvm_model.specs.Entry.{EntryPoint}
+use Rattle.jvm_model.specs.Verification.{Verification}
 use Rattle.jvm_model.specs.BuiltForm.{BuiltForm}
 use Rattle.jvm_model.specs.FrameSize.{FrameSize}
 use Rattle.jvm_model.specs.CodeLength.{CodeLength}
@@ -28,6 +29,7 @@ phases =
     ∷ ClosedSet
     ∷ Members
     ∷ EntryPoint
+    ∷ Verification
     ∷ BuiltForm
     ∷ FrameSize
     ∷ CodeLength

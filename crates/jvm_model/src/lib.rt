@@ -13,8 +13,5 @@
 mod laws;
 mod refusal;
 
-pub use laws::{
-    limits_cut, one_ending, one_linking, one_outcome, one_verdict, runs_leave_the_rest,
-    sets_are_linked,
-};
+pub use laws::{one_ending, one_linking, runs_leave_the_rest, statics_are_set};
 pub use refusal::{Cause, Refusal};

@@ -58,6 +58,8 @@ pub enum Cause {
     Denied,
     /// No file declares `public static main()V`.
     NoMain,
+    /// The method has no right table of types; the pc is the lowest at which the first round that fails does so.
+    Unverified,
     /// The set is of no form that is built; the place is that of the first instruction that is reached and
     /// outside the form, if there is one.
     Unbuilt,
