@@ -1,0 +1,2 @@
+pub mod WayClasses
+pub mod KindCases
