@@ -1,0 +1,7 @@
+pub mod Frames
+pub mod Chains
+pub mod Trees
+pub mod Changes
+pub mod StoreLaws
+pub mod Merges
+pub mod Types
