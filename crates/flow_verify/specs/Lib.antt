@@ -1,0 +1,11 @@
+pub mod KnownFrames
+pub mod Lowest
+pub mod Waves
+pub mod Merging
+pub mod Starting
+pub mod Outcomes
+pub mod KnownRows
+pub mod Verified
+pub mod Needs
+pub mod Moves
+pub mod Finding
