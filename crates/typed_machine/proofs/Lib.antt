@@ -1,0 +1,5 @@
+mod KeptObjects
+mod MovesKeep
+mod ArraysKeep
+mod CallsKeep
+mod StepKeeps
