@@ -6,7 +6,7 @@ use Rattle.image_form.specs.declared.record.Image.{Image}
 use Rattle.image_form.specs.Grammar.{IsImage}
 use Rattle.image_check.specs.Checked.{IsChecked, IsBuilt}
 use Rattle.jvm_model.specs.SetImage.{IsImageOf}
-use Rattle.jvm_model.proofs.NumberSets.{number_set}
+use Rattle.set_laws.proofs.NumberSets.{number_set}
 use Rattle.infuse_link.specs.RunsAlike.{RunsAlike}
 use Rattle.infuse_link.proofs.ImageChecked.{image_is_image, image_checked, image_built}
 use Rattle.infuse_link.proofs.RunsAlike.{runs_alike}

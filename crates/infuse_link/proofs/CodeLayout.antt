@@ -16,7 +16,7 @@ use Rattle.jvm_model.specs.NumberForm.{HasNumberForm, reads, writes, targets}
 use Rattle.jvm_model.specs.FrameCells.{slot_of, is_written, cells_below}
 use Rattle.jvm_model.specs.Expansion.{family_bytes, size_of, offset_of, expanded}
 use Rattle.jvm_model.specs.ImageOf.{code_for}
-use Rattle.jvm_model.proofs.NumberSets.{IsNumberSet}
+use Rattle.set_laws.proofs.NumberSets.{IsNumberSet}
 use Rattle.infuse_link.proofs.FamilySizes.{family-size, switch-size}
 use Rattle.infuse_link.proofs.BodyPlaces.{Has, has_from, contains_from, all_has, placed_has, has_placed, offset-keeps, offset-grows, offset-next, offset-within, code-from, size-within}
 use Rattle.infuse_link.proofs.BodyDecoded.{HasNumbersInOrder, IsDecoded, body_decoded, all_weaker}

@@ -17,7 +17,7 @@ use Rattle.jvm_model.specs.Machine as typed
 use Rattle.jvm_model.specs.Body.{Body, placed_in}
 use Rattle.jvm_model.specs.NumberForm.{HasNumberMain, is_of_form, reads, writes, IsBelow}
 use Rattle.jvm_model.specs.ImageOf.{image_of}
-use Rattle.jvm_model.proofs.NumberSets.{IsNumberSet}
+use Rattle.set_laws.proofs.NumberSets.{IsNumberSet}
 use Rattle.mote_model.specs.State as split_state
 use Rattle.mote_model.specs.Machine as split
 use Rattle.infuse_link.specs.RunsAlike.{SameEnding}

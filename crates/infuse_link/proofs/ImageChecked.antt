@@ -18,7 +18,7 @@ use Rattle.jvm_model.specs.NumberForm.{HasNumberForm, is_of_form, targets, is_in
 use Rattle.jvm_model.specs.FrameCells.{slot_of, cells_below, greatest_height, body_cells}
 use Rattle.jvm_model.specs.Expansion.{Emitted, emitted_bytes, offset_of}
 use Rattle.jvm_model.specs.ImageOf.{object_id, name_of_class, entry_flags, class_entry, code_for, image_of}
-use Rattle.jvm_model.proofs.NumberSets.{IsNumberSet}
+use Rattle.set_laws.proofs.NumberSets.{IsNumberSet}
 use Rattle.infuse_link.proofs.PoolEntries.{class_name_at-fits}
 use Rattle.infuse_link.proofs.BodyPlaces.{Has, contains_from, all_has}
 use Rattle.infuse_link.proofs.BodyDecoded.{all_weaker}

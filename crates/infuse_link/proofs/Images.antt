@@ -18,7 +18,7 @@ use Rattle.jvm_model.specs.NumberForm.{HasNumberForm, HasNumberMain, IsBelow, wr
 use Rattle.jvm_model.specs.FrameCells.{is_number, is_written, cells_below, slot_of, number_cells, greatest_height, body_cells, frame_cells}
 use Rattle.jvm_model.specs.Expansion.{family_bytes, body_bytes, size_of, offset_of}
 use Rattle.jvm_model.specs.ImageOf.{code_for, image_of, entry_of}
-use Rattle.jvm_model.proofs.NumberSets.{IsNumberSet}
+use Rattle.set_laws.proofs.NumberSets.{IsNumberSet}
 use Rattle.infuse_link.specs.declared.locals.Slots.{Slots}
 use Rattle.infuse_link.specs.declared.offsets.Offsets.{Offsets}
 use Rattle.infuse_link.specs.declared.stop.Stop.{Stop}

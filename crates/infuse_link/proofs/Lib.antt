@@ -16,6 +16,7 @@ pub mod PlainInsns
 pub mod Scans
 pub mod OutsideFirsts
 pub mod ReadSets
+pub mod TypedBodies
 pub mod Verdicts
 pub mod AcceptedSets
 pub mod SetElements

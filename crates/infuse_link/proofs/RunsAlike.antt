@@ -19,10 +19,10 @@ use Rattle.jvm_model.specs.Body.{Body}
 use Rattle.jvm_model.specs.FrameCells.{cells_below, slot_of, frame_cells}
 use Rattle.jvm_model.specs.Expansion.{offset_of, size_of}
 use Rattle.jvm_model.specs.ImageOf.{image_of}
-use Rattle.jvm_model.proofs.NumberSets.{IsNumberSet, number_set}
+use Rattle.set_laws.proofs.NumberSets.{IsNumberSet, number_set}
 use Rattle.jvm_model.specs.Linked.{Linked}
 use Rattle.jvm_model.specs.Verdict.{Accepted}
-use Rattle.jvm_model.proofs.SetRuns.{runs_limited, limited_again}
+use Rattle.set_laws.proofs.SetRuns.{runs_limited, limited_again}
 use Rattle.mote_model.specs.State as split_state
 use Rattle.mote_model.specs.declared.ending.Ending as split_ending
 use Rattle.mote_model.specs.declared.ending.Ending.TheVariants as endings

@@ -20,14 +20,15 @@ use Rattle.jvm_model.specs.Linked.{IsNumberFile, Linked, refusal_of_main}
 use Rattle.jvm_model.specs.ClosedSet.{ClosedClasses}
 use Rattle.jvm_model.specs.Linking.{Linking, Members}
 use Rattle.jvm_model.specs.Entry.{Entering, EntryPoint}
+use Rattle.jvm_model.specs.Verification.{Typing, Verification}
 use Rattle.jvm_model.specs.BuiltForm.{BuiltForm}
 use Rattle.jvm_model.specs.FrameSize.{FrameSize, most_frame_cells}
 use Rattle.jvm_model.specs.CodeLength.{CodeLength}
 use Rattle.jvm_model.specs.Verdict.{FirstRefusal, IsRefused}
 use Rattle.jvm_model.specs.SetImage.{IsImageOf}
-use Rattle.jvm_model.proofs.NumberSets.{IsNumberSet, linked_as, accepted_as}
-use Rattle.jvm_model.proofs.SetRuns.{image_is_one}
-use Rattle.jvm_model.proofs.VerdictLaws.{same_cells, verdict_unique}
+use Rattle.set_laws.proofs.NumberSets.{IsNumberSet, linked_as, accepted_as}
+use Rattle.set_laws.proofs.SetRuns.{image_is_one}
+use Rattle.set_laws.proofs.VerdictLaws.{same_cells, verdict_unique}
 use Rattle.infuse_link.specs.declared.stop.Stop.{Stop}
 use Rattle.infuse_link.specs.declared.stop.Stop.TheVariants.{Unbuilt, FrameTooLarge, CodeTooLong, Memory}
 use Rattle.infuse_link.specs.Infused.{Gives}
@@ -57,8 +58,8 @@ number_of files class one form code body main = record { class_file = record { c
 
 -- ---- what was read is infused or refused
 
-pub set_infused : (files : List (List ℕ)) (classes : List ClassFile) (image : Image) → AreRead files classes → ClosedClasses classes None → Linking classes None → Entering classes None → IsOneClass classes (λ class. IsClassImage class image) → IsImageOf files image
-set_infused files classes image read closed linking entering made =
+pub set_infused : (files : List (List ℕ)) (classes : List ClassFile) (image : Image) → AreRead files classes → ClosedClasses classes None → Linking classes None → Entering classes None → Typing classes None → IsOneClass classes (λ class. IsClassImage class image) → IsImageOf files image
+set_infused files classes image read closed linking entering typed made =
     let one = file_of files classes made.class read made.classes_are in
     let number : IsNumberSet files made.class made.has.code made.has.body =
     record {
@@ -69,7 +70,7 @@ set_infused files classes image read closed linking entering made =
       code_fits = made.has.code_fits;
     } in
     let passes = accepted_as files made.class made.has.code made.has.body number in
-    record { accepted = passes (classes_read ClosedClasses files classes None read closed) (classes_read Linking files classes None read linking) (classes_read Entering files classes None read entering); linked = linked_as files made.class made.has.code made.has.body number; image_is = made.has.image_is }
+    record { accepted = passes (classes_read ClosedClasses files classes None read closed) (classes_read Linking files classes None read linking) (classes_read Entering files classes None read entering) (classes_read Typing files classes None read typed); linked = linked_as files made.class made.has.code made.has.body number; image_is = made.has.image_is }
 
 -- a file of the number form is the one class
 class_is : (bytes : List ℕ) (files : List (List ℕ)) (classes : List ClassFile) (file : ClassFile) → files ≡ bytes ∷ [] → IsOneMain bytes file → AreRead files classes → classes ≡ file ∷ []
@@ -91,20 +92,26 @@ linked_class files class one form code body main = record { bytes = one.bytes; f
 -- the phases up to that of a closed set pass
 module _ (files : List (List ℕ)) (classes : List ClassFile) (size : SetSize files None) (read : AreRead files classes) (coded : first_refusal class_refusal 0 classes ≡ None) (closed : ClosedClasses classes None) where
   -- a refusal that comes after the phases that are tested on classes that need not be closed
-  behind : (why : Refusal) → FirstRefusal (Members ∷ EntryPoint ∷ BuiltForm ∷ FrameSize ∷ CodeLength ∷ []) files (Some why) → RefusedOrMemory files why
+  behind : (why : Refusal) → FirstRefusal (Members ∷ EntryPoint ∷ Verification ∷ BuiltForm ∷ FrameSize ∷ CodeLength ∷ []) files (Some why) → RefusedOrMemory files why
   behind why fails = inr (inr (size, inr (none_unread 0 files classes read, inr (scan_same class_refusal 0 files classes read ∙ coded, inr (classes_read ClosedClasses files classes None read closed, fails)))))
 
-  -- a closed set whose classes do not stand together, or that has no entry, is refused so
+  -- a closed set whose classes do not stand together, that has no entry, or of which a method has no types, is refused so
   pub set_unlinked : (refusal : Refusal) → IsUnlinked classes refusal → RefusedOrMemory files refusal
   set_unlinked refusal (inl unlinked) = behind refusal (inl (classes_read Linking files classes (Some refusal) read unlinked))
-  set_unlinked refusal (inr none) = behind refusal (inr (classes_read Linking files classes None read none.0, inl (classes_read Entering files classes (Some refusal) read none.1)))
+  set_unlinked refusal (inr (inl none)) = behind refusal (inr (classes_read Linking files classes None read none.0, inl (classes_read Entering files classes (Some refusal) read none.1)))
+  set_unlinked refusal (inr (inr untyped)) =
+      behind refusal
+      (inr (
+        classes_read Linking files classes None read untyped.0,
+        inr (classes_read Entering files classes None read untyped.1.0, inl (classes_read Typing files classes (Some refusal) read untyped.1.1)),
+      ))
 
 -- all phases before the form pass, and the set has no image for this reason
-module _ (files : List (List ℕ)) (classes : List ClassFile) (size : SetSize files None) (read : AreRead files classes) (coded : first_refusal class_refusal 0 classes ≡ None) (closed : ClosedClasses classes None) (linking : Linking classes None) (entering : Entering classes None) where
+module _ (files : List (List ℕ)) (classes : List ClassFile) (size : SetSize files None) (read : AreRead files classes) (coded : first_refusal class_refusal 0 classes ≡ None) (closed : ClosedClasses classes None) (linking : Linking classes None) (entering : Entering classes None) (typed : Typing classes None) where
   late : (why : Refusal) → FirstRefusal (BuiltForm ∷ FrameSize ∷ CodeLength ∷ []) files (Some why) → RefusedOrMemory files why
   late why fails =
       behind files classes size read coded closed why
-      (inr (classes_read Linking files classes None read linking, inr (classes_read Entering files classes None read entering, fails)))
+      (inr (classes_read Linking files classes None read linking, inr (classes_read Entering files classes None read entering, inr (classes_read Typing files classes None read typed, fails))))
 
   pub set_refused : (why : Stop) (refusal : Refusal) → SetStopsFor classes why → RefusesFor classes why refusal → RefusedOrMemory files refusal
   set_refused Unbuilt refusal stops (inl memory) = inl memory

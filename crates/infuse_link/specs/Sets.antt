@@ -18,6 +18,7 @@ use Rattle.jvm_model.specs.BuiltForm.{is_plain_insn, NamesFirst, OutsideClass}
 use Rattle.jvm_model.specs.Linked.{refusal_of_main}
 use Rattle.jvm_model.specs.Linking.{Linking}
 use Rattle.jvm_model.specs.Entry.{Entering}
+use Rattle.jvm_model.specs.Verification.{Typing}
 use Rattle.infuse_link.specs.declared.stop.Stop.{Stop}
 use Rattle.infuse_link.specs.declared.stop.Stop.TheVariants.{Unbuilt, FrameTooLarge, CodeTooLong, Memory}
 use Rattle.infuse_link.specs.ClassImage.{HasLargeMain, HasLongMain}
@@ -32,9 +33,11 @@ AreRead _ _ = ⊥
 abbrev pub IsRecord : ClassFile → Type 0
 IsRecord class = (bytes : List ℕ) × IsClassFile bytes class
 
--- the classes do not stand together and are refused so, or they do and have no entry and are refused so
+-- the classes do not stand together and are refused so; or they do, and have no entry and are refused so; or they
+-- have one, and a method has no types and is refused so
 abbrev pub IsUnlinked : List ClassFile → Refusal → Type 0
-IsUnlinked classes why = Linking classes (Some why) ⊎ (Linking classes None × Entering classes (Some why))
+IsUnlinked classes why =
+    Linking classes (Some why) ⊎ ((Linking classes None × Entering classes (Some why)) ⊎ (Linking classes None × (Entering classes None × Typing classes (Some why))))
 
 -- there is one class, it has the form of one main, and P holds of it
 pub record IsOneClass (classes : List ClassFile) (P : ClassFile → Type 0) : Type 0 where

@@ -17,6 +17,7 @@ mod outside;
 mod reach;
 mod sets;
 mod stop;
+mod verifying;
 
 pub use infusing::infuse;
 pub use laws::accepted_sets_run;

@@ -15,7 +15,7 @@ use Rattle.image_form.specs.Format.{encoding}
 use Rattle.image_form.proofs.Whole.{one_image}
 use Rattle.jvm_model.specs.declared.refusal.Refusal.{Refusal}
 use Rattle.jvm_model.specs.Machine as typed
-use Rattle.jvm_model.proofs.SetRuns.{limited_run_is_one}
+use Rattle.set_laws.proofs.SetRuns.{limited_run_is_one}
 use Rattle.infuse_link.proofs.AcceptedSets.{set_image, set_checked, set_built}
 use Rattle.jvm_model.specs.SetRun.{LimitedRun}
 use Rattle.jvm_model.specs.SetImage.{IsImageOf}

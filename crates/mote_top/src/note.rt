@@ -71,6 +71,7 @@ fn word_of(cause: Cause) -> &'static [u8]
         Cause::WrongKind => b"wrongkind",
         Cause::Denied => b"denied",
         Cause::NoMain => b"nomain",
+        Cause::Unverified => b"unverified",
         Cause::Unbuilt => b"unbuilt",
         Cause::FrameTooLarge => b"frametoolarge",
         Cause::CodeTooLong => b"codetoolong",

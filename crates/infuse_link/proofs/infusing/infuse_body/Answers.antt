@@ -5,7 +5,7 @@ use Rattle.image_form.specs.SmallForm.{small_method, small_image}
 use Rattle.jvm_model.specs.FrameCells.{frame_cells}
 use Rattle.jvm_model.specs.Phases.{saturated}
 use Rattle.jvm_model.specs.ImageOf.{code_for, entry_of}
-use Rattle.jvm_model.proofs.NumberSets.{IsNumberSet}
+use Rattle.set_laws.proofs.NumberSets.{IsNumberSet}
 use Rattle.infuse_link.specs.NumberInsns.{body_meant}
 use Rattle.infuse_link.specs.Tests.{slot_in}
 use Rattle.infuse_link.specs.Offsets.{sizes, place_in}

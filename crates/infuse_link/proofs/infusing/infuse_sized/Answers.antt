@@ -2,12 +2,14 @@ use Rattle.std.proofs.Common.{Vec, Global, ◌≡◌, inl, inr, ℕ, ◌≤◌, 
 use Rattle.std.specs.List.{AllByRecursion}
 use Rattle.std.specs.Prelude.{Result, Ok, Err, IsErrAnd, IfErr}
 use Rattle.class_file.specs.declared.record.ClassFile.{ClassFile}
+use Rattle.class_tree.specs.Tree.{Gathers}
 use Rattle.image_form.specs.declared.record.Image.{Image}
 use Rattle.jvm_model.specs.declared.refusal.Refusal.{Refusal}
 use Rattle.jvm_model.specs.Phases.{first_refusal, class_refusal}
 use Rattle.jvm_model.specs.ClosedSet.{ClosedClasses}
 use Rattle.jvm_model.specs.Linking.{Linking}
 use Rattle.jvm_model.specs.Entry.{Entering}
+use Rattle.jvm_model.specs.Verification.{Typing}
 use Rattle.infuse_link.specs.ClassImage.{IsClassImage, RefusedOrMemory}
 use Rattle.infuse_link.specs.Sets.{IsRecord, IsUnlinked, IsOneClass, SetStopsFor, RefusesFor}
 use Rattle.infuse_link.proofs.ReadSets.{are_records, none_unread, scan_same}
@@ -56,7 +58,10 @@ returns-in_err-set-clause-refused c =
 pub test_linking-requires : goal.test_linking-requires
 test_linking-requires c =
     let fits = ap (first_refusal class_refusal 0) (sym c.as_slice.ensures.value) ∙ c.in_ok-test_classes.ensures.fits in
-    record { codes = ap (first_refusal class_refusal 0) c.in_ok-set.ensures.closed ∙ fits }
+    record {
+      codes = ap (first_refusal class_refusal 0) c.in_ok-set.ensures.closed ∙ fits;
+      closed = subst (λ (cs : List ClassFile). Gathers cs None) (sym c.in_ok-set.ensures.closed) c.in_ok-set.ensures.passed;
+    }
 
 pub returns-in_err-test_linking-clause-refused : goal.returns-in_err-test_linking-clause-refused
 returns-in_err-test_linking-clause-refused c =
@@ -87,6 +92,7 @@ returns-in-Ok-clause-found c =
     set_infused files c.in_ok-classes.classes.items c.in-Ok.image c.in_ok-classes.ensures.read c.in_ok-set.ensures.passed
     (subst (λ (cs : List ClassFile). Linking cs None) c.in_ok-set.ensures.closed c.in_ok-test_linking.ensures.linked)
     (subst (λ (cs : List ClassFile). Entering cs None) c.in_ok-set.ensures.closed c.in_ok-test_linking.ensures.entry)
+    (subst (λ (cs : List ClassFile). Typing cs None) c.in_ok-set.ensures.closed c.in_ok-test_linking.ensures.typed)
     (subst (λ (cs : List ClassFile). IsOneClass cs (λ class. IsClassImage class c.in-Ok.image)) c.in_ok-set.ensures.closed c.in-Ok.ensures.found)
 
 pub returns-clause-refused : goal.returns-clause-refused
@@ -98,4 +104,5 @@ returns-clause-refused c =
     let refuses = subst (λ (cs : List ClassFile). RefusesFor cs c.in-Err.why c.refusal_for.result) c.in_ok-set.ensures.closed c.refusal_for.ensures in
     let linking = subst (λ (cs : List ClassFile). Linking cs None) c.in_ok-set.ensures.closed c.in_ok-test_linking.ensures.linked in
     let entering = subst (λ (cs : List ClassFile). Entering cs None) c.in_ok-set.ensures.closed c.in_ok-test_linking.ensures.entry in
-    set_refused files classes c.requires c.in_ok-classes.ensures.read fits c.in_ok-set.ensures.passed linking entering c.in-Err.why c.refusal_for.result stops refuses
+    let typed = subst (λ (cs : List ClassFile). Typing cs None) c.in_ok-set.ensures.closed c.in_ok-test_linking.ensures.typed in
+    set_refused files classes c.requires c.in_ok-classes.ensures.read fits c.in_ok-set.ensures.passed linking entering typed c.in-Err.why c.refusal_for.result stops refuses
