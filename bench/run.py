@@ -247,6 +247,34 @@ def many_fields():
     return Case("65,535 fields", 65535, "field", classes, wanted=(0, 3))
 
 
+# ---- types
+
+
+def typed(name, amount, unit, code, max_stack, max_locals):
+    """A class of this main, which is verified and need not run."""
+    pool = make.Pool()
+    methods = [make.method(pool, "main", "()V", make.code_attribute(pool, code, max_stack, max_locals))]
+    classes = [make.class_bytes(pool, "Bench", methods)]
+    return Case(name, amount, unit, classes, wanted=(0, 3))
+
+
+def types_of_nops():
+    return typed("types of 65,534 nops", 65534, "insn", b"\x00" * 65534 + b"\xb1", 0, 0)
+
+
+def types_of_pushes():
+    return typed("types of 32,764 pushes", 32764, "insn", b"\x03" * 32764 + b"\xb1", 32764, 0)
+
+
+def types_of_stores():
+    stores = b"".join(b"\x03\xc4\x36" + make.struct.pack(">H", 5 * k) for k in range(13106))
+    return typed("types of 65,535 locals, 13,106 stores", 13106, "store", stores + b"\xb1", 1, 65535)
+
+
+def types_of_merges():
+    return typed("types of 10,000 merges", 10000, "merge", b"\x03\x99\x00\x05\x03\x3b" * 10000 + b"\xb1", 1, 1)
+
+
 def all_cases(steps):
     yield arithmetic(steps)
     yield branches(steps)
@@ -266,6 +294,10 @@ def all_cases(steps):
     yield many_rows()
     yield many_texts()
     yield many_fields()
+    yield types_of_nops()
+    yield types_of_pushes()
+    yield types_of_stores()
+    yield types_of_merges()
 
 
 # ---- measuring
