@@ -28,10 +28,11 @@ use Rattle.jvm_model.specs.State.{Value, Whole, Null}
 use Rattle.jvm_model.specs.TypesRules.{op_at}
 use Rattle.typed_machine.specs.TypedState.{Object, Instance, Elements}
 
--- the classes of a set, the bodies of its methods, and the cells of a method's frame
+-- the classes of a set, the bodies of its methods, the method that is its main, and the cells of a method's frame
 pub record World : Type 0 where
   pub files : List ClassFile
   pub bodies : List Body
+  pub main : MemberId
   pub frame_cells : MemberId → ℕ
 
 -- ---- methods

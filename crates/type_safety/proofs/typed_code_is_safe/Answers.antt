@@ -1,0 +1,9 @@
+use Rattle.type_safety.proofs.AllMoves.{moves_fit}
+use Rattle.type_safety.proofs.PartsHold.{are_parts}
+use Rattle.type_safety.proofs.typed_code_is_safe.Goals as goal
+
+pub returns-clause-parts : goal.returns-clause-parts
+returns-clause-parts c = are_parts
+
+pub returns-clause-moves : goal.returns-clause-moves
+returns-clause-moves c = moves_fit are_parts

@@ -1,0 +1,4 @@
+pub mod Fitting
+pub mod Facts
+pub mod Safety
+pub mod Parts

@@ -1,0 +1,34 @@
+-- Typed code is never stuck: from a state that fits there is a move, and the next state fits.
+use Rattle.std.specs.Prelude.{None}
+use Rattle.std.specs.List.{AllByRecursion}
+use Rattle.account.specs.Account.{Does, Stops, Stuck}
+use Rattle.class_pool.specs.declared.types.MemberId.{MemberId}
+use Rattle.class_tree.specs.Tree.{Gathers}
+use Rattle.body_form.specs.declared.body.Body.{Body}
+use Rattle.jvm_model.specs.TypesRight.{IsRight}
+use Rattle.typed_machine.specs.TypedMoves.{TypedMove}
+use Rattle.typed_machine.specs.TypedState.{State}
+use Rattle.typed_machine.specs.TypedStep.{move}
+use Rattle.typed_machine.specs.TypedWorld.{World}
+use Rattle.type_safety.specs.Facts.{SetFacts}
+use Rattle.type_safety.specs.Fitting.{Tables, StateFits}
+
+-- the method of a body
+abbrev pub method_of : Body → MemberId
+method_of body = record { class = body.class; member = body.method }
+
+-- a move of typed code: it is not stuck, and a state to which it goes on fits
+abbrev pub MoveFits : World → Tables → TypedMove → Type 0
+MoveFits world tables (Does need events next) = StateFits world tables next
+MoveFits world tables (Stops need events ending) = Unit {0}
+MoveFits world tables Stuck = ⊥
+
+-- a closed set of which the facts hold, with a right table of types for each body
+pub record IsSet (world : World) (tables : Tables) : Type 0 where
+  pub closed : Gathers world.files None
+  pub facts : SetFacts world
+  pub types : AllByRecursion (λ body. IsRight world.files body (tables (method_of body))) world.bodies
+
+-- from a state that fits there is a move, and the next state fits
+abbrev pub FactsKeepSafe : Type 0
+FactsKeepSafe = (world : World) (tables : Tables) → IsSet world tables → (state : State) → StateFits world tables state → MoveFits world tables (move world state)
