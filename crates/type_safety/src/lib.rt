@@ -5,11 +5,12 @@
 #![tactic(auto)]
 
 ghost use Rattle.type_safety.specs.Parts.{AreParts};
-ghost use Rattle.type_safety.specs.Safety.{FactsKeepSafe};
+ghost use Rattle.type_safety.specs.Safety.{FactsKeepSafe, PhasesGiveFacts};
 
 /// From a state of typed code that fits its types there is a move, and what it goes on to fits, where control leads to
 /// instructions and what instructions name is there, of the type that they say.
 pub fn typed_code_is_safe()
     ensures parts { AreParts }
     ensures moves { FactsKeepSafe }
+    ensures facts { PhasesGiveFacts }
 {}
