@@ -25,7 +25,7 @@ use Rattle.type_safety.proofs.PlainMoves.{nop_moves, const_moves, goto_moves, bi
 use Rattle.type_safety.proofs.ReceiverCalls.{call_virtual_fits, call_interface_fits}
 use Rattle.type_safety.proofs.ReturnMoves.{return_fits}
 use Rattle.type_safety.proofs.SetBodies.{body_of}
-use Rattle.type_safety.proofs.Starting.{starting_fits, constructors_are_void}
+use Rattle.type_safety.proofs.Starting.{starting_fits}
 use Rattle.type_safety.proofs.ThrowMoves.{throw_moves}
 
 -- ---- the families
@@ -44,7 +44,7 @@ each_fits world own (op.IfCmp cond target) named = if_cmp_moves cond target
 each_fits world own (op.IfRef cond target) named = if_ref_moves cond target
 each_fits world own (op.Goto target) named = goto_moves target
 each_fits world own (op.Switch form default rows) named = switch_moves form default rows
-each_fits world own (op.Return kind) named = return_fits constructors_are_void kind
+each_fits world own (op.Return kind) named = return_fits kind
 each_fits world own (op.GetStatic used) named = get_static_fits used
 each_fits world own (op.PutStatic used) named = put_static_fits used
 each_fits world own (op.GetField used) named = get_field_fits used

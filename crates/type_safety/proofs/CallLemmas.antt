@@ -1,17 +1,13 @@
 -- What is shown of each family of instructions: from a state that fits, its move fits.
-use Rattle.std.specs.Prelude.{◌≡◌, ℕ, true, List, ◌∷◌, Some, None}
-use Rattle.std.specs.List.{AllByRecursion, Contains}
+use Rattle.std.specs.Prelude.{◌≡◌, List, ◌∷◌, Some}
+use Rattle.std.specs.List.{AllByRecursion}
 use Rattle.body_form.specs.declared.body.Body.{Body}
-use Rattle.body_form.specs.declared.op.MethodUse.{MethodUse}
 use Rattle.body_form.specs.declared.op.Op.{Op}
-use Rattle.body_form.specs.declared.op.Op.TheVariants as op
 use Rattle.body_form.specs.declared.types.VFrame.{VFrame}
 use Rattle.jvm_model.specs.TypesFrames.{start_frame}
 use Rattle.typed_machine.specs.TypedState.{Object, Frame, State}
 use Rattle.typed_machine.specs.TypedStep.{move_of}
 use Rattle.typed_machine.specs.TypedWorld.{World, body_among, pc_after}
-use Rattle.jvm_model.specs.TypesRules.{op_at}
-use Rattle.type_safety.specs.Facts.{is_named_constructor}
 use Rattle.type_safety.specs.Fitting.{Tables, ObjectFits, FrameFits, YoungestFits, StateFits}
 use Rattle.type_safety.specs.Parts.{AreParts, StandsAt}
 use Rattle.type_safety.specs.Safety.{IsSet, MoveFits}
@@ -26,8 +22,3 @@ MoveLemma op =
 abbrev pub StartingFits : Type 0
 StartingFits = (world : World) (tables : Tables) → IsSet world tables → (objects : List Object) → AllByRecursion (ObjectFits world objects) objects → (frame : Frame) (body : Body) → body_among world.bodies frame.method ≡ Some body → frame.pc ≡ 0
     → FrameFits world objects body frame (start_frame world.files body) → YoungestFits world tables objects frame
-
--- A constructor has no result (JVMS 4.3.3), so that its call pushes nothing.
-abbrev pub ConstructorsAreVoid : Type 0
-ConstructorsAreVoid = (world : World) (tables : Tables) → IsSet world tables → (body : Body) → Contains world.bodies body → (pc : ℕ) (used : MethodUse) → op_at body.ops pc ≡ Some (op.CallSpecial used)
-    → is_named_constructor used ≡ true → used.descriptor.result ≡ None

@@ -36,7 +36,7 @@ use Rattle.type_safety.proofs.CodeRead.{IsRead}
 use Rattle.type_safety.proofs.ClassWays.{fits_super, super_fits}
 use Rattle.type_safety.proofs.Declared.{flags_there}
 use Rattle.type_safety.proofs.LibraryMethods.{library_method, native_shared}
-use Rattle.type_safety.proofs.RunMethods.{method_of_file, method_rules, runs}
+use Rattle.type_safety.proofs.RunMethods.{method_of_file, method_rules, constructor_void, runs}
 use Rattle.type_safety.proofs.FoundMethods.{IsNamed, IsSelected, named_at, selected}
 use Rattle.type_safety.proofs.NamedMethods.{call_says, IsFit, fit, is_called}
 
@@ -156,10 +156,12 @@ module _ (world : World) (gathers : Gathers world.files None) (rank : ℕ → �
       let has : has_code files target.0 ≡ true = ap (has_target files) (sym there) ∙ code.1 in
       let allowed : is_allowed files from false call.0.found ≡ true = (and_parts (may_use_class files from call.0.class) (is_allowed files from false call.0.found) says.allowed).1 in
       let found = target_is from call.0 fits allowed target.0 there in
+      let called = is_called world gathers rank ranked read are links call.0 target.0 target.0 true fits.plain fits.type found.named found.static in
       subst (λ (u : MethodUse). (is_named_constructor u ≡ true → is_interface (flags_of files u.class) ≡ false) → IsSpecial world from u) is
       (λ no_interface. record {
-        runs = runs world read are target.0 (use_of files call.0 target.0) true (is_called world gathers rank ranked read are links call.0 target.0 target.0 true fits.plain fits.type found.named found.static) has;
+        runs = runs world read are target.0 (use_of files call.0 target.0) true called has;
         constructor = λ named. ap (λ (i : MemberId). i.class) (found.constructor named) ∙ constructor_own call.0 (no_interface named) named says.found;
+        void = constructor_void world read are target.0 (use_of files call.0 target.0) called;
         other = λ plain class concrete below_named below_own. elim (found.other plain) [
           | inl same ↦ subst (λ (c : ℕ). ClassFits world class c) (sym same) below_own
           | inr above ↦ fits_super files gathers rank ranked class target.0.class (over (superclass_of files) class from target.0.class (super_fits files gathers rank ranked class from own_class below_own) above)

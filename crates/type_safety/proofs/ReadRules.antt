@@ -1,20 +1,22 @@
 -- What is read of a class file keeps the rules of its members.
-use Rattle.std.proofs.Common.{◌≡◌, ℕ, zero, suc, ◌<◌, ◌≤◌, Bool, true, false, ◌||◌, List, [], ◌∷◌, ◌++◌, length, Option, Some, None, Result, Ok, Err, is_some, refl, sym, ap, subst, ◌∙◌, arith, codes}
+use Rattle.std.proofs.Common.{◌≡◌, ℕ, zero, suc, ◌<◌, ◌≤◌, Bool, true, false, ◌||◌, List, [], ◌∷◌, ◌++◌, length, Option, Some, None, Result, Ok, Err, is_some, option_and_then, refl, sym, ap, subst, ◌∙◌, arith, codes}
 use Rattle.std.specs.List.{AllByRecursion}
 use Rattle.std.proofs.lemmas.Bool.{and_parts, ltb-true, ltb-false}
 use Rattle.std.proofs.lemmas.List.{length-take}
 use Rattle.byte_read.proofs.Steps.{bind_then, ok_is, no_failure, passes, roomy, chosen}
 use Rattle.byte_read.specs.Reading.{slice_at, steps_at, one_more}
+use Rattle.class_pool.specs.declared.descriptor.Descriptor.{Descriptor}
+use Rattle.class_pool.specs.DescriptorReading.{method_of}
 use Rattle.class_pool.specs.Pool.{Slots, utf8_at}
 use Rattle.class_file.specs.declared.record.ClassFile.{ClassFile}
 use Rattle.class_file.specs.declared.record.CodeAttr.{CodeAttr}
 use Rattle.class_file.specs.declared.record.Member.{Member}
 use Rattle.class_file.specs.declared.refusal.ReadRefusal.{ReadRefusal}
-use Rattle.class_file.specs.declared.refusal.ReadRefusal.TheVariants.{BadShape, TooLarge, NotClass, TrailingBytes, Truncated}
+use Rattle.class_file.specs.declared.refusal.ReadRefusal.TheVariants.{BadDescriptor, BadShape, TooLarge, NotClass, TrailingBytes, Truncated}
 use Rattle.class_file.proofs.Whole.{ways}
-use Rattle.class_file.specs.Rules.{is_abstract, is_code_size, is_named, has_one_access, fits_interface_field, fits_interface_method, fits_abstract}
+use Rattle.class_file.specs.Rules.{is_abstract, is_code_size, is_named, has_one_access, fits_interface_field, fits_interface_method, fits_abstract, fits_constructor}
 use Rattle.class_file.specs.Reading.{u2_at, u4_at, counted_at, list_at}
-use Rattle.class_file.specs.ReadingMembers.{text_at, info_at, skip_all_at, handlers_at, code_bytes_at, code_parts, as_shape, code_at, method_attribute_at, method_attributes_at, head_in, field_type, method_type, head_at, field_head_at, method_head_at, field_attributes_at, field_at, method_at, fields_at, methods_at}
+use Rattle.class_file.specs.ReadingMembers.{text_at, info_at, skip_all_at, handlers_at, code_bytes_at, code_parts, as_shape, code_at, method_attribute_at, method_attributes_at, head_in, described, field_type, method_type, head_at, field_head_at, method_head_at, field_attributes_at, field_at, method_at, fields_at, methods_at}
 use Rattle.class_file.specs.ReadingClass.{version_at, pool_at, class_head_at, members_at, body_of, class_of, capped}
 
 -- ---- the rules
@@ -31,6 +33,9 @@ pub record MethodRules (class_flags : ℕ) (pool : Slots) (m : Member) : Type 0 
   pub access : has_one_access m.flags ≡ true
   pub of_interface : fits_interface_method class_flags pool (head_in m) ≡ true
   pub abstract_flags : fits_abstract pool (head_in m) ≡ true
+  pub type : Descriptor
+  pub typed : option_and_then method_of (utf8_at pool m.descriptor) ≡ Some type
+  pub constructor : fits_constructor pool (head_in m) type ≡ true
   pub has_code : HasCode (is_abstract m.flags) m.code
   pub has_bytes : HasBytes m.code
 
@@ -143,6 +148,10 @@ attributes_keep pool abstract bytes x e =
 
 -- ---- members
 
+described_is : (index : ℕ) (o : Option Descriptor) (type : Descriptor) → described index o ≡ Ok type → o ≡ Some type
+described_is index None type e = absurd (no_failure type (BadDescriptor index) (sym e))
+described_is index (Some found) type e = ap (λ (t : Descriptor). Some t) (ok_is found type e)
+
 field_keeps : (class_flags : ℕ) (pool : Slots) (earlier : List Member) (bytes : List ℕ) (x : Member × List ℕ) → field_at class_flags pool earlier bytes ≡ Ok x → FieldRules class_flags x.0
 unfolding field_at field_head_at
 field_keeps class_flags pool earlier bytes x e =
@@ -156,7 +165,7 @@ field_keeps class_flags pool earlier bytes x e =
     ap (fits_interface_field class_flags) same ∙ rules.1))))
 
 method_keeps : (class_flags : ℕ) (pool : Slots) (earlier : List Member) (bytes : List ℕ) (x : Member × List ℕ) → method_at class_flags pool earlier bytes ≡ Ok x → MethodRules class_flags pool x.0
-unfolding method_at method_head_at
+unfolding method_at method_head_at method_type
 method_keeps class_flags pool earlier bytes x e =
     bind_then (method_head_at class_flags pool earlier bytes) _ x e (λ head at_head e1.
     bind_then (method_attributes_at pool (is_abstract head.0.flags) head.1) _ x e1 (λ code at_code e2.
@@ -166,13 +175,18 @@ method_keeps class_flags pool earlier bytes x e =
     let p = and_parts _ _ (and_parts _ _ passed.0).0 in
     let flags = and_parts _ _ p.0 in
     let of_interface = and_parts _ _ flags.1 in
-    let names = and_parts _ _ (and_parts _ _ p.1).0 in
+    let later = and_parts _ _ p.1 in
+    let names = and_parts _ _ later.0 in
+    let types = and_parts _ _ later.1 in
     let kept = attributes_keep pool (is_abstract head.0.flags) head.1 code at_code in
     let heads = ap (λ (h : _). h.0) passed.1 in
     subst (λ (y : Member × List ℕ). MethodRules class_flags pool y.0) (ok_is _ x e2) (record {
       access = ap (λ (h : _). has_one_access h.flags) (sym heads) ∙ flags.0;
       of_interface = ap (λ (h : _). fits_interface_method class_flags pool h) (sym heads) ∙ of_interface.0;
       abstract_flags = ap (λ (h : _). fits_abstract pool h) (sym heads) ∙ names.0;
+      type = type;
+      typed = ap (λ (h : _). option_and_then method_of (utf8_at pool h.descriptor)) (sym heads) ∙ described_is other.0.descriptor (option_and_then method_of (utf8_at pool other.0.descriptor)) type at_type;
+      constructor = ap (λ (h : _). fits_constructor pool h type) (sym heads) ∙ types.0;
       has_code = kept.0;
       has_bytes = kept.1;
     })))))

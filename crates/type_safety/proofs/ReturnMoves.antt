@@ -36,7 +36,7 @@ use Rattle.type_safety.proofs.Arguments.{kept_narrows, kind_narrows, as_kind}
 use Rattle.type_safety.proofs.CallParts.{call_rule}
 use Rattle.type_safety.proofs.EachLists.{each_append, of_each}
 use Rattle.type_safety.proofs.GoingOn.{IsFound, found_body, RuleParts, rule_parts, going_on}
-use Rattle.type_safety.proofs.CallLemmas.{MoveLemma, ConstructorsAreVoid}
+use Rattle.type_safety.proofs.CallLemmas.{MoveLemma}
 
 where_true : {X : Type 0} (b : Bool) (found : Option X) (x : X) → (if b then found else None) ≡ Some x → (b ≡ true) × (found ≡ Some x)
 where_true true found x e = (refl, e)
@@ -105,7 +105,7 @@ returned_fit world objects body (Some kind) (value ∷ []) pushes each e =
     subst (AreEach (ValueFits world objects body) (value ∷ [])) same (each.0.has body, tt)
 returned_fit world objects body (Some kind) (value ∷ other ∷ values) pushes each e = absurd each.1
 
-module _ (voids : ConstructorsAreVoid) (parts : AreParts) (world : World) (tables : Tables) (set : IsSet world tables) (state : State) (fits : StateFits world tables state) where
+module _ (parts : AreParts) (world : World) (tables : Tables) (set : IsSet world tables) (state : State) (fits : StateFits world tables state) where
   -- the caller goes on
   caller_goes_on : (caller : Frame) (others : List Frame) (result : Option Kind) (values : List Value) (body : Body) (types : VFrame) (instruction : Op) (used : MethodUse) (change : Change)
       → body_among world.bodies caller.method ≡ Some body → op_at body.ops caller.pc ≡ Some instruction → call_of instruction ≡ Some used → tables caller.method caller.pc ≡ Some types
@@ -138,7 +138,7 @@ module _ (voids : ConstructorsAreVoid) (parts : AreParts) (world : World) (table
       pushes =
           subst (λ r. result_of world.files r ≡ Some change.pushes) same
           (pushes_result world.files body caller.pc types instruction used change calls
-          (λ special. voids world tables set body there.among caller.pc used (at ∙ ap Some special)) rule)
+          (λ special. ((set.facts body there.among).named caller.pc (op.CallSpecial used) (at ∙ ap Some special)).void) rule)
 
       whole : FrameFits world state.objects body (at_pc caller caller.pc (values ++ caller.operands)) (changed change types)
       whole =
@@ -189,9 +189,9 @@ module _ (voids : ConstructorsAreVoid) (parts : AreParts) (world : World) (table
     by_result None (Some kind) is each change e = absurd (none-some change e)
     by_result (Some result) None is each change e = absurd (none-some change e)
 
-pub return_fits : ConstructorsAreVoid → (kind : Option ValueKind) → MoveLemma (op.Return kind)
-return_fits voids kind parts world tables set state frame others same fits body types after stands typed =
+pub return_fits : (kind : Option ValueKind) → MoveLemma (op.Return kind)
+return_fits kind parts world tables set state frame others same fits body types after stands typed =
     let rule = rule_parts world.files body frame.pc (op.Return kind) types after stands.rule in
     let wait = (subst (FramesFit world tables state.objects) same fits.frames).1 in
     let tested = where_false types.pending (option_and_then (λ tests. plain types tests []) (returned world.files body.result kind)) rule.change rule.is in
-    by_result voids parts world tables set state fits frame others body types stands.found wait stands.of_set.stack body.result kind refl typed.operands rule.change tested.1
+    by_result parts world tables set state fits frame others body types stands.found wait stands.of_set.stack body.result kind refl typed.operands rule.change tested.1

@@ -1,6 +1,6 @@
 -- A method with code that is found by a name and a descriptor runs: it is a native, or has a body among those of the
 -- set.
-use Rattle.std.proofs.Common.{◌≡◌, inl, inr, ℕ, ◌-◌, ◌≤◌, Bool, true, false, ◌&&◌, ◌||◌, not, cond, List, [], map, slice_get, Option, Some, None, is_some, option_map, option_and_then, unwrap_or, refl, sym, ap, subst, ◌∙◌}
+use Rattle.std.proofs.Common.{◌≡◌, inl, inr, ℕ, ◌-◌, ◌≤◌, Bool, true, false, ◌&&◌, ◌||◌, not, cond, List, [], map, slice_get, Option, Some, None, is_none, is_some, option_map, option_and_then, unwrap_or, refl, sym, ap, subst, ◌∙◌}
 use Rattle.std.specs.List.{AllByRecursion}
 use Rattle.std.specs.Option.{option_map_or}
 use Rattle.std.specs.Str.{bytes_eq}
@@ -9,15 +9,17 @@ use Rattle.std.proofs.lemmas.Slice.Eq.{bytes_eq-Decides}
 use Rattle.std.proofs.lemmas.Option.{slice_get-map}
 use Rattle.library.specs.Classes.{first_own}
 use Rattle.library.specs.declared.natives.Native.{Native}
+use Rattle.library.specs.declared.natives.Native.TheVariants as native
 use Rattle.library.specs.Members.{methods_of as natives_of}
 use Rattle.class_pool.specs.declared.descriptor.Descriptor.{Descriptor}
+use Rattle.class_pool.specs.declared.descriptor.Kind.{Kind}
 use Rattle.class_pool.specs.declared.types.MemberId.{MemberId}
 use Rattle.class_pool.specs.Pool.{Slots, utf8_at}
 use Rattle.class_pool.specs.DescriptorReading.{method_of}
 use Rattle.class_file.specs.declared.record.ClassFile.{ClassFile}
 use Rattle.class_file.specs.declared.record.CodeAttr.{CodeAttr}
 use Rattle.class_file.specs.declared.record.Member.{Member}
-use Rattle.class_file.specs.Rules.{is_static, is_private, is_abstract, is_public, is_final, is_interface, is_static_method, is_initialiser as is_initialiser_head, is_named}
+use Rattle.class_file.specs.Rules.{is_static, is_private, is_abstract, is_public, is_final, is_interface, is_static_method, is_initialiser as is_initialiser_head, is_constructor as is_constructor_head, is_named}
 use Rattle.class_file.specs.ReadingMembers.{head_in}
 use Rattle.class_tree.specs.Set.{file_of, flags_of}
 use Rattle.class_tree.specs.Members.{Declaration, in_file, in_library, methods_of}
@@ -28,7 +30,7 @@ use Rattle.class_code.specs.Code.{decoded}
 use Rattle.jvm_model.specs.Linking.{is_initialiser}
 use Rattle.jvm_model.specs.MethodUses.{constructor_name, initialiser_name, has_code}
 use Rattle.typed_machine.specs.TypedWorld.{World}
-use Rattle.type_safety.specs.Facts.{RunsBody, Runs}
+use Rattle.type_safety.specs.Facts.{result_of, is_construct, is_named_constructor, RunsBody, Runs}
 use Rattle.type_safety.proofs.SetLists.{none_some, same_some, all_at, false_is_true}
 use Rattle.type_safety.proofs.ReadRules.{MethodRules, HasCode}
 use Rattle.type_safety.proofs.CodeRead.{IsRead, FitsMethod}
@@ -52,6 +54,20 @@ not_static_abstract false private static final e a = absurd (let bad : false ≡
 first_false : (a b : Bool) → (a || b) ≡ false → a ≡ false
 first_false true b e = e
 first_false false b e = refl
+
+-- a constructor has no result
+no_result : (constructor static abstract : Bool) (result : Option Kind) → (not constructor || (not static && (not abstract && is_none result))) ≡ true → constructor ≡ true → result ≡ None
+no_result true true abstract result e c = absurd (let bad : false ≡ true = e in cc)
+no_result true false true result e c = absurd (let bad : false ≡ true = e in cc)
+no_result true false false None e c = refl
+no_result true false false (Some kind) e c = absurd (let bad : false ≡ true = e in cc)
+no_result false static abstract result e c = absurd (let bad : false ≡ true = c in cc)
+
+native_void : (n : Native) → true ≡ is_construct n → result_of n ≡ None
+native_void native.Construct e = refl
+native_void native.Write e = refl
+native_void native.Print e = refl
+native_void native.Read e = absurd (let bad : true ≡ false = e in cc)
 
 -- a name differs from another one both ways
 pub other_way : (a b : List ℕ) → bytes_eq a b ≡ false → bytes_eq b a ≡ false
@@ -164,6 +180,10 @@ module _ (files : List ClassFile) where
     no_initialiser None name is e = refl
     no_initialiser (Some n) name is e = ap (bytes_eq initialiser_name) is ∙ e
 
+    named_constructor : (o : Option (List ℕ)) (name : List ℕ) → unwrap_or o [] ≡ name → bytes_eq name constructor_name ≡ true → is_named constructor_name o ≡ true
+    named_constructor None name is e = absurd (let bad : [] ≡ constructor_name = is ∙ (bytes_eq-Decides name constructor_name).0 e in cc)
+    named_constructor (Some n) name is e = ap (λ (m : List ℕ). bytes_eq m constructor_name) is ∙ e
+
 -- a method that is declared with the name and the type that a call names
 pub record IsCalled (files : List ClassFile) (id : MemberId) (used : MethodUse) (on_object : Bool) : Type 0 where
   pub declaration : Declaration
@@ -211,6 +231,28 @@ module _ (world : World) (read : AllByRecursion IsRead world.files) (are : AreBo
             ∙ ap (λ (o : Option Declaration). option_map_or (λ (method : Declaration). bytes_eq method.name constructor_name) o false) called.there
             ∙ ap (λ (name : List ℕ). bytes_eq name constructor_name) called.name_is;
       }
+
+  void_body : (id : MemberId) (used : MethodUse) (on_object : Bool) → IsCalled world.files id used on_object → 32 ≤ id.class → is_named_constructor used ≡ true → used.descriptor.result ≡ None
+  void_body id used on_object called own named =
+      let stands = method_of_file world.files id.class id.member called.declaration own called.there in
+      let rules = method_rules world.files read id.class id.member called.declaration stands in
+      let name : unwrap_or (utf8_at stands.has.file.pool stands.method.name) [] ≡ used.name = ap (λ (d : Declaration). d.name) stands.is ∙ called.name_is in
+      let text : unwrap_or (utf8_at stands.has.file.pool stands.method.descriptor) [] ≡ called.declaration.descriptor = ap (λ (d : Declaration). d.descriptor) stands.is in
+      let type : rules.type ≡ used.descriptor = text_type world.files read (utf8_at stands.has.file.pool stands.method.descriptor) called.declaration.descriptor used.descriptor rules.type text called.type rules.typed in
+      ap (λ (d : Descriptor). d.result) (sym type)
+      ∙ no_result (is_constructor_head stands.has.file.pool (head_in stands.method)) (is_static stands.method.flags) (is_abstract stands.method.flags) rules.type.result rules.constructor
+      (named_constructor world.files read (utf8_at stands.has.file.pool stands.method.name) used.name name named)
+
+  -- a constructor that a call names has no result
+  pub constructor_void : (id : MemberId) (used : MethodUse) → IsCalled world.files id used true → is_named_constructor used ≡ true → used.descriptor.result ≡ None
+  constructor_void id used called named =
+      elim (cases_lt id.class 32) [
+        | inl library ↦
+            let found = library_method world.files id.class id.member called.declaration library called.there in
+            let run = runs_native world id used true found.native found.there (ap (λ (d : Declaration). method_of d.descriptor) found.is ∙ called.type) (ap (λ (d : Declaration). is_static d.flags) found.is ∙ called.static) in
+            run.result ∙ native_void run.found run.object
+        | inr own ↦ void_body id used true called own named
+      ]
 
   pub runs : (id : MemberId) (used : MethodUse) (on_object : Bool) → IsCalled world.files id used on_object → has_code world.files id ≡ true → Runs world id used on_object
   runs id used on_object called has =

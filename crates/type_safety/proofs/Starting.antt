@@ -1,9 +1,8 @@
--- A frame that fits what its method starts with fits the method's types at pc 0, and constructors have no result.
+-- A frame that fits what its method starts with fits the method's types at pc 0.
 use Rattle.std.proofs.Common.{◌≡◌, Some, sym, subst}
-use Rattle.body_form.specs.declared.op.Op.TheVariants as op
 use Rattle.jvm_model.specs.TypesFrames.{start_frame}
 use Rattle.type_order.proofs.Rules.{start-is-proper}
-use Rattle.type_safety.proofs.CallLemmas.{StartingFits, ConstructorsAreVoid}
+use Rattle.type_safety.proofs.CallLemmas.{StartingFits}
 use Rattle.type_safety.proofs.Leaving.{arrives}
 use Rattle.type_safety.proofs.SetBodies.{body_of}
 use Rattle.type_safety.proofs.Values.{are_of_set}
@@ -21,6 +20,3 @@ starting_fits world tables set objects fit frame body found first fits =
       known = subst (λ pc. tables frame.method pc ≡ Some young.types) (sym first) young.known;
       has = record { locals = young.has.locals; operands = young.has.operands };
     }
-
-pub constructors_are_void : ConstructorsAreVoid
-constructors_are_void world tables set = set.voids

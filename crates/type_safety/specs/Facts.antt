@@ -119,11 +119,13 @@ pub record Finds (world : World) (used : MethodUse) (class : ℕ) : Type 0 where
   -- the object may be the receiver of the method
   pub fits : ClassFits world class id.class
 
--- A constructor is one of the class that is named. Another method that invokespecial calls may have each object as
--- receiver that fits both the class that is named and the one in which the call stands.
+-- A constructor is one of the class that is named, and has no result (JVMS 4.3.3), so that its call pushes nothing.
+-- Another method that invokespecial calls may have each object as receiver that fits both the class that is named and the
+-- one in which the call stands.
 pub record IsSpecial (world : World) (own : ℕ) (used : MethodUse) : Type 0 where
   pub runs : Runs world used.method used true
   pub constructor : is_named_constructor used ≡ true → used.method.class ≡ used.class
+  pub void : is_named_constructor used ≡ true → used.descriptor.result ≡ None
   pub other : is_named_constructor used ≡ false → (class : ℕ) → IsConcrete world class → ClassFits world class used.class → ClassFits world class own → ClassFits world class used.method.class
 
 -- an array that fits the class that is named would be a receiver
@@ -158,7 +160,3 @@ pub record BodyFacts (world : World) (body : Body) : Type 0 where
 
 abbrev pub SetFacts : World → Type 0
 SetFacts world = (body : Body) → Contains world.bodies body → BodyFacts world body
-
--- a constructor has no result (JVMS 4.3.3), so that its call pushes nothing
-abbrev pub ConstructorsAreVoid : World → Type 0
-ConstructorsAreVoid world = (body : Body) → Contains world.bodies body → (pc : ℕ) (used : MethodUse) → op_at body.ops pc ≡ Some (op.CallSpecial used) → is_named_constructor used ≡ true → used.descriptor.result ≡ None

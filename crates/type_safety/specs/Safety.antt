@@ -15,7 +15,7 @@ use Rattle.typed_machine.specs.TypedMoves.{TypedMove}
 use Rattle.typed_machine.specs.TypedState.{State}
 use Rattle.typed_machine.specs.TypedStep.{move}
 use Rattle.typed_machine.specs.TypedWorld.{World}
-use Rattle.type_safety.specs.Facts.{SetFacts, ConstructorsAreVoid}
+use Rattle.type_safety.specs.Facts.{SetFacts}
 use Rattle.type_safety.specs.Fitting.{Tables, StateFits}
 
 -- the method of a body
@@ -37,12 +37,10 @@ MoveFits world tables (Does need events next) = StateFits world tables next
 MoveFits world tables (Stops need events ending) = Unit {0}
 MoveFits world tables Stuck = ⊥
 
--- a closed set of which the facts hold, and in which constructors have no result, with a right table of types for each
--- body
+-- a closed set of which the facts hold, with a right table of types for each body
 pub record IsSet (world : World) (tables : Tables) : Type 0 where
   pub closed : Gathers world.files None
   pub facts : SetFacts world
-  pub voids : ConstructorsAreVoid world
   pub types : AllByRecursion (λ body. IsRight world.files body (tables (method_of body))) world.bodies
 
 -- from a state that fits there is a move, and the next state fits
