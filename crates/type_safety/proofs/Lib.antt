@@ -49,6 +49,7 @@ mod ReadRules
 mod ReceiverCalls
 mod ReturnMoves
 mod RunMethods
+mod SafeRuns
 mod SetBodies
 mod SetLists
 mod Standing

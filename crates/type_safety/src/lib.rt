@@ -1,16 +1,18 @@
-//! Typed code is never stuck: from a state that fits a right table of types of each method, the typed machine has a
-//! move, and the next state fits. The definitions are in specs/: what fits (Fitting), what is asked of a set (Facts),
-//! the laws (Safety), and the parts of which moves are made (Parts). This crate has no code of its own. It stands on
-//! `typed_machine`, `type_rounds` and `jvm_model`.
+//! Typed code is never stuck: in a set that the phases up to that of types accept, moves from a state that fits a right
+//! table of types of each method lead only to states that fit, and from each of them there is a move. The definitions
+//! are in specs/: the law (Safety), what fits (Fitting), what a set gives (Facts), and the parts of which moves are made
+//! (Parts). This crate has no code of its own. It stands on `typed_machine`, `type_rounds` and `jvm_model`.
 #![tactic(auto)]
 
 ghost use Rattle.type_safety.specs.Parts.{AreParts};
-ghost use Rattle.type_safety.specs.Safety.{FactsKeepSafe, PhasesGiveFacts};
+ghost use Rattle.type_safety.specs.Safety.{FactsKeepSafe, PhasesGiveFacts, TypedCodeIsSafe};
 
-/// From a state of typed code that fits its types there is a move, and what it goes on to fits, where control leads to
-/// instructions and what instructions name is there, of the type that they say.
+/// From a state of typed code that fits its types the typed machine goes on for ever or stops, and is never stuck. It is
+/// so since the phases of a set give facts, as that what an instruction names is there and of the type that it says; and
+/// where the facts hold, the move from a state that fits goes on to a state that fits, or stops.
 pub fn typed_code_is_safe()
-    ensures parts { AreParts }
-    ensures moves { FactsKeepSafe }
+    ensures safe { TypedCodeIsSafe }
     ensures facts { PhasesGiveFacts }
+    ensures moves { FactsKeepSafe }
+    ensures parts { AreParts }
 {}
