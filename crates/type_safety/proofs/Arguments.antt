@@ -24,7 +24,7 @@ use Rattle.typed_machine.specs.TypedState.{Object, Instance, Elements}
 use Rattle.typed_machine.specs.TypedWorld.{World, type_of}
 use Rattle.type_safety.specs.Fitting.{IsWhole, NamesObject, ValueFits, KindFits, ObjectFits}
 use Rattle.type_safety.proofs.EachLists.{each_reverse, each_of_map, of_place}
-use Rattle.type_safety.proofs.CallFits.{refs_over}
+use Rattle.type_safety.proofs.FitsOver.{refs_over}
 
 -- ---- tests that pass
 

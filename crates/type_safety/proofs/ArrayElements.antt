@@ -24,7 +24,7 @@ use Rattle.typed_machine.specs.TypedArrays.{kept_by_base, kept_in, new_array, ma
 use Rattle.typed_machine.specs.TypedState.{Object, Instance, Elements, State}
 use Rattle.typed_machine.specs.TypedWorld.{World, type_of, is_below, default_of_type}
 use Rattle.type_safety.specs.Fitting.{IsWhole, NamesObject, ValueFits, TypeFits, ObjectFits}
-use Rattle.type_safety.proofs.FitsOver.{below_fits}
+use Rattle.type_safety.proofs.BelowFits.{below_fits}
 use Rattle.type_safety.proofs.GrownObjects.{all_at}
 use Rattle.type_safety.proofs.HeldValues.{object_type, reference_fits}
 

@@ -26,7 +26,7 @@ use Rattle.typed_machine.specs.TypedWorld.{World, array_cells, pc_after}
 use Rattle.type_safety.specs.Fitting.{Tables, IsWhole, NamesObject, ValueFits, TypeFits, ObjectFits}
 use Rattle.type_safety.specs.Safety.{MoveFits}
 use Rattle.type_safety.proofs.Lemmas.{MoveLemma}
-use Rattle.type_safety.proofs.FitsOver.{fits_itself}
+use Rattle.type_safety.proofs.BelowFits.{fits_itself}
 use Rattle.type_safety.proofs.GrownObjects.{all_at, all_set, next_name}
 use Rattle.type_safety.proofs.HeldValues.{each_grows}
 use Rattle.type_safety.proofs.ArrayElements.{IsArrayOf, array_named, has_dims_of, are_references, read_as, read_fits, new_array_fits, stored_fits}

@@ -26,7 +26,7 @@ use Rattle.typed_machine.specs.TypedWorld.{World, pc_after}
 use Rattle.type_safety.specs.Fitting.{Tables, ValueFits, TypeFits, ObjectFits}
 use Rattle.type_safety.specs.Safety.{MoveFits}
 use Rattle.type_safety.proofs.Lemmas.{MoveLemma}
-use Rattle.type_safety.proofs.FitsOver.{fits_itself}
+use Rattle.type_safety.proofs.BelowFits.{fits_itself}
 use Rattle.type_safety.proofs.GrownObjects.{all_append}
 use Rattle.type_safety.proofs.HeldValues.{each_grows}
 use Rattle.type_safety.proofs.ArrayElements.{new_array_fits}

@@ -21,7 +21,7 @@ use Rattle.type_safety.proofs.Arguments.{takes_parts, takes_enough, tests_length
 use Rattle.type_safety.proofs.CallParts.{CallRule, call_rule, CallsFrom, calls_from, body_starts, static_arguments}
 use Rattle.type_safety.proofs.EachLists.{each_length, each_drop, each_with}
 use Rattle.type_safety.proofs.GoingOn.{RuleParts, rule_parts, facts_of}
-use Rattle.type_safety.proofs.CallLemmas.{MoveLemma, StartingFits}
+use Rattle.type_safety.proofs.Lemmas.{MoveLemma, StartingFits}
 use Rattle.type_safety.proofs.NativeMoves.{static_native_runs}
 
 unless_less : (world : World) (tables : Tables) (m n : ℕ) (move : TypedMove) → n ≤ m → MoveFits world tables move → MoveFits world tables (if nat_lt m n then Stuck else move)

@@ -31,7 +31,7 @@ use Rattle.type_safety.specs.Safety.{IsSet, MoveFits}
 use Rattle.type_safety.proofs.Arguments.{tests_length, parameters_hold}
 use Rattle.type_safety.proofs.EachLists.{each_length, each_append, each_replicate}
 use Rattle.type_safety.proofs.GoingOn.{rule_parts, wait_below, going_on}
-use Rattle.type_safety.proofs.CallLemmas.{StartingFits}
+use Rattle.type_safety.proofs.Lemmas.{StartingFits}
 
 pub drop_more : {X : Type 0} (n : ℕ) (xs : List X) → drop (suc n) xs ≡ drop 1 (drop n xs)
 drop_more zero xs = refl

@@ -1,4 +1,4 @@
--- Which classes fit which, and where lookups that go up end.
+-- What is above a class by each way up, and where lookups that go up end.
 use Rattle.std.proofs.Common.{◌≡◌, inl, inr, ℕ, zero, suc, true, false, ◌||◌, List, [], ◌∷◌, map, nat_eq, Option, Some, None, refl, sym, ap, subst, ◌∙◌, arith, eqb-true}
 use Rattle.std.specs.List.{AllByRecursion, Contains}
 use Rattle.std.specs.Option.{option_or, option_to_list}
@@ -120,18 +120,6 @@ module _ (files : List ClassFile) where
   subclass_is lower upper e = (subclass_says files lower upper).0 e
 
   module _ (gathers : Gathers files None) (rank : ℕ → ℕ) (is : IsRanked files rank) where
-    -- a class fits one above it, and fits one that is no interface only where that is a superclass
-    pub fits_super : (class upper : ℕ) → Above files class upper → fits files (known.Ref (class_type class)) (class_type upper) ≡ true
-    fits_super class upper way =
-        fits_at_class files 0 (Class class) upper ∙ or_right (is_interface (flags_of files upper)) (is_class_or_super files class upper) (complete files rank is class upper way)
-
-    pub super_fits : (class upper : ℕ) → is_interface (flags_of files upper) ≡ false → fits files (known.Ref (class_type class)) (class_type upper) ≡ true → Above files class upper
-    super_fits class upper never e =
-        elim (or_cases (is_interface (flags_of files upper)) (is_class_or_super files class upper) (sym (fits_at_class files 0 (Class class) upper) ∙ e)) [
-          | inl interface ↦ false_is_true (is_interface (flags_of files upper)) interface never
-          | inr below ↦ sound files rank is class upper below
-        ]
-
     -- what is above a class and no interface is a superclass
     pub no_interface_above : (class upper : ℕ) → IsClass files class → IsSubclass files class upper → is_interface (flags_of files upper) ≡ false → Above files class upper
     no_interface_above class upper inside (inl same) never = subst (Above files class) same Same
@@ -144,21 +132,6 @@ module _ (files : List ClassFile) where
           | inl same ↦ false_is_true (is_interface (flags_of files class)) interface (ap (λ (c : ℕ). is_interface (flags_of files c)) same ∙ never)
           | inr way ↦ sym (last (superclass_of files) object upper refl way)
         ]
-
-    pub over_object : (upper : ℕ) → Above files 0 upper → upper ≡ 0
-    over_object upper way = sym (last (superclass_of files) 0 upper refl way)
-
-    -- no array fits a class that is no interface and not java/lang/Object
-    pub no_array_fits : (class : ℕ) → is_interface (flags_of files class) ≡ false → (class ≡ 0 → ⊥) → (array : TypeRef) → fits files (known.Ref array) (class_type class) ≡ true → array.dims ≡ 0
-    no_array_fits class never other array e = by_dims array.dims array.base (sym (fits_at_class files array.dims array.base class) ∙ e)
-      where
-        by_dims : (dims : ℕ) (base : TypeBase) → (is_interface (flags_of files class) || fits_class files dims base class) ≡ true → dims ≡ 0
-        by_dims zero base h = refl
-        by_dims (suc dims) base h =
-            elim (or_cases (is_interface (flags_of files class)) (nat_eq class object) h) [
-              | inl interface ↦ false_is_true (is_interface (flags_of files class)) interface never
-              | inr same ↦ absurd (other (eqb-true class object same))
-            ]
 
     -- what a superclass answers is answered from a class on
     pub answered : (own : ℕ → Option MemberId) (class at : ℕ) (id : MemberId) → Above files class at → own at ≡ Some id → (found : MemberId) × (first_in_superclasses files own class ≡ Some found)

@@ -34,9 +34,9 @@ use Rattle.type_safety.specs.Safety.{IsSet, MoveFits}
 use Rattle.type_safety.proofs.Arguments.{names_over}
 use Rattle.type_safety.proofs.CallParts.{drop_more, CallRule, call_rule, CallsFrom, receiver_type}
 use Rattle.type_safety.proofs.EachLists.{each_drop, each_right, of_place}
-use Rattle.type_safety.proofs.CallFits.{refs_over, class_fits_itself, class_fits_super, array_fits_as_object, object_fits_as_array}
+use Rattle.type_safety.proofs.FitsOver.{refs_over, class_fits_itself, class_fits_super, array_fits_as_object, object_fits_as_array}
 use Rattle.type_safety.proofs.GoingOn.{RuleParts, rule_parts, facts_of}
-use Rattle.type_safety.proofs.CallLemmas.{MoveLemma, StartingFits}
+use Rattle.type_safety.proofs.Lemmas.{MoveLemma, StartingFits}
 use Rattle.type_safety.proofs.ObjectCalls.{IsReceiver, arguments_fit, on_receiver, on_object, runs_on}
 use Rattle.type_safety.proofs.ReceiverCalls.{object_receives, object_call}
 

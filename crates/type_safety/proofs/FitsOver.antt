@@ -1,225 +1,197 @@
--- What fits a type fits each type that this one fits, and what is below a type fits it.
-use Rattle.std.proofs.Common.{◌≡◌, ℕ, zero, suc, ◌⊎◌, Bool, true, false, ◌&&◌, ◌||◌, nat_eq, nat_lt, inl, inr, List, None, refl, sym, ap, subst, ◌∙◌, arith}
-use Rattle.std.proofs.lemmas.Bool.{cases_Bool, and_parts, or_cases, eqb-true, ltb-true}
+-- What fits a type fits each type that this one fits, and a class fits itself and the classes above it.
+use Rattle.std.proofs.Common.{◌≡◌, ℕ, zero, suc, Bool, true, false, ◌&&◌, ◌⊎◌, inl, inr, List, Some, None, refl, sym, subst, ◌∙◌, arith}
+use Rattle.std.proofs.lemmas.Bool.{cases_Bool, and_parts, or_cases, or_left, or_right, eqb-true, eq-eqb}
 use Rattle.class_pool.specs.declared.types.TypeRef.{TypeRef}
 use Rattle.class_pool.specs.declared.types.TypeBase.{TypeBase}
 use Rattle.class_pool.specs.declared.types.TypeBase.TheVariants.{Class}
 use Rattle.class_file.specs.declared.record.ClassFile.{ClassFile}
 use Rattle.class_file.specs.Rules.{is_interface}
 use Rattle.body_form.specs.declared.types.VType.TheVariants as known
-use Rattle.class_tree.specs.DirectSupers.{superclass_of}
-use Rattle.class_tree.specs.Fits.{fits, fits_class, fits_ref}
-use Rattle.class_tree.specs.InterfaceLookup.{object}
-use Rattle.class_tree.specs.Merge.{is_reference, are_primitive, type_of}
-use Rattle.class_tree.specs.Set.{flags_of, IsClass}
-use Rattle.class_tree.specs.Closure.{Leads, AtOnce, Over as ByWay}
-use Rattle.class_tree.specs.Subtypes.{directly_below, IsBaseBelow, IsBelow, IsSubtype, Same, Over, Super, HasDimensions, IsType, class_type}
+use Rattle.class_tree.specs.Set.{IsClass, flags_of}
+use Rattle.class_tree.specs.Subtypes.{IsType, class_type}
 use Rattle.class_tree.specs.Tree.{Gathers}
-use Rattle.class_tree.proofs.CommonSuper.{Above, top, sound, complete}
-use Rattle.class_tree.proofs.Forest.{step, last}
-use Rattle.class_tree.proofs.MergeLaws.{below, interfaces}
-use Rattle.class_tree.proofs.RefParts.{has_dims, primitive_parts, primitive_with_itself, fits_component, fits_array, fits_no_array, fits_at_class, fits_no_type, component_refs, component_others}
+use Rattle.class_tree.specs.DirectSupers.{superclass_of}
+use Rattle.class_tree.specs.InterfaceLookup.{object}
+use Rattle.class_tree.specs.Merge.{is_class_or_super, is_reference, are_primitive, type_of}
+use Rattle.class_tree.specs.Fits.{fits, fits_class, fits_ref}
+use Rattle.class_tree.proofs.Forest.{Same, Over, over, step, last}
 use Rattle.class_tree.proofs.Superclasses.{IsRanked, ranked}
-use Rattle.class_tree.proofs.TestedAccess.{subclass_says}
-use Rattle.typed_machine.specs.TypedWorld.{is_base_below, is_object, is_below}
+use Rattle.class_tree.proofs.CommonSuper.{Above, sound, complete, top}
+use Rattle.class_tree.proofs.MergeLaws.{interfaces}
+use Rattle.class_tree.proofs.RefParts.{component, primitive_parts, reference_is_none, fits_component, fits_array, fits_no_array, fits_at_class, fits_no_type, component_refs, component_others}
 
-never_both : (b : Bool) → b ≡ true → b ≡ false → ⊥
-never_both true e f = cc
-never_both false e f = cc
-
-object_refers : (n : ℕ) → is_reference n (Class 0) ≡ true
-object_refers zero = refl
-object_refers (suc n) = refl
-
-class_of_base : (a b : ℕ) → Class a ≡ Class b → a ≡ b
-class_of_base a b e = cc
+no_both : (b : Bool) → b ≡ true → b ≡ false → ⊥
+no_both true e f = cc
+no_both false e f = cc
 
 module _ (files : List ClassFile) (gathers : Gathers files None) where
-  abbrev Fits : ℕ → TypeBase → ℕ → TypeBase → Type 0
-  Fits m s n t = fits_ref files m s n t ≡ true
-
-  rank : ℕ → ℕ
+  abbrev rank : ℕ → ℕ
   rank = (ranked files gathers).0
 
-  falls : IsRanked files rank
-  unfolding rank
-  falls = (ranked files gathers).1
+  is_ranked : IsRanked files rank
+  is_ranked = (ranked files gathers).1
 
-  -- ---- java/lang/Object
+  abbrev IsInterface : ℕ → Type 0
+  IsInterface class = is_interface (flags_of files class) ≡ true
 
-  fits_object : (m : ℕ) (s : TypeBase) → IsType files (type_of m s) → Fits m s 0 (Class object)
-  fits_object zero (Class class) known = fits_at_class files 0 (Class class) object ∙ complete files rank falls class object (top files rank falls gathers class known.0)
-  fits_object zero s known = absurd (omega (arith, known.1))
-  fits_object (suc m) s known = fits_at_class files (suc m) s object
+  -- ---- classes
 
-  fits_that : (m : ℕ) (s : TypeBase) (upper : ℕ) → IsType files (type_of m s) → object ≡ upper → Fits m s 0 (Class upper)
-  fits_that m s upper known e = subst (λ class. Fits m s 0 (Class class)) e (fits_object m s known)
+  above_from : (class upper : ℕ) → is_class_or_super files class upper ≡ true → Above files class upper
+  above_from class upper e = sound files rank is_ranked class upper e
 
-  -- ---- over a class
+  above_to : (class upper : ℕ) → Above files class upper → is_class_or_super files class upper ≡ true
+  above_to class upper way = complete files rank is_ranked class upper way
 
-  fits_interface : (m : ℕ) (s : TypeBase) (upper : ℕ) → is_interface (flags_of files upper) ≡ true → Fits m s 0 (Class upper)
-  fits_interface m s upper is = fits_at_class files m s upper ∙ ap (λ b. b || fits_class files m s upper) is
+  -- nothing but itself is above java/lang/Object
+  pub above_object : (upper : ℕ) → Above files object upper → object ≡ upper
+  above_object upper way = last (superclass_of files) object upper refl way
 
-  -- what fits a class that is no interface, by its superclasses
-  plainly : (m : ℕ) (s : TypeBase) (upper : ℕ) → is_interface (flags_of files upper) ≡ false → Fits m s 0 (Class upper) → fits_class files m s upper ≡ true
-  plainly m s upper never e = sym (fits_at_class files m s upper ∙ ap (λ b. b || fits_class files m s upper) never) ∙ e
-
-  -- of classes that are no interface, an interface fits java/lang/Object alone
-  over_interface : (class upper : ℕ) → IsClass files class → is_interface (flags_of files class) ≡ true → is_interface (flags_of files upper) ≡ false → Above files class upper → object ≡ upper
-  over_interface class upper inside is never above =
-      elim (step (superclass_of files) class object upper (interfaces files gathers class inside is) above) [
-        | inl same ↦ absurd (never_both (is_interface (flags_of files upper)) (subst (λ c. is_interface (flags_of files c) ≡ true) same is) never)
-        | inr way ↦ last (superclass_of files) object upper refl way
+  -- what is above an interface is the interface, or java/lang/Object
+  above_interface : (class upper : ℕ) → IsClass files class → IsInterface class → Above files class upper → (class ≡ upper) ⊎ (object ≡ upper)
+  above_interface class upper inside interface way =
+      elim (step (superclass_of files) class object upper (interfaces files gathers class inside interface) way) [
+        | inl same ↦ inl same
+        | inr on ↦ inr (above_object upper on)
       ]
 
-  over_class : (m : ℕ) (s : TypeBase) (n : ℕ) (t : TypeBase) (upper : ℕ) → IsType files (type_of m s) → IsType files (type_of n t) → is_interface (flags_of files upper) ≡ false
-      → Fits m s n t → Fits n t 0 (Class upper) → Fits m s 0 (Class upper)
-  over_class m s zero (Class class) upper lower known never first second =
-      elim (cases_Bool (is_interface (flags_of files class))) [
-        | inl is ↦ fits_that m s upper lower (over_interface class upper known.0 is never (sound files rank falls class upper (plainly 0 (Class class) upper never second)))
-        | inr plain ↦
-            let low = (below files gathers (type_of m s) class lower plain).0 first in
-            let up = (below files gathers (class_type class) upper known never).0 second in
-            (below files gathers (type_of m s) upper lower never).1 (Over (class_type class) low up)
-      ]
-  over_class m s zero t upper lower known never first second = absurd (omega (arith, known.1))
-  over_class m s (suc n) t upper lower known never first second = fits_that m s upper lower (sym (eqb-true upper object (plainly (suc n) t upper never second)))
+  -- ---- what fits a class
 
-  -- ---- over a type
+  at_class : (m : ℕ) (s : TypeBase) (upper : ℕ) → fits_ref files m s zero (Class upper) ≡ true → (IsInterface upper) ⊎ (fits_class files m s upper ≡ true)
+  at_class m s upper e = or_cases (is_interface (flags_of files upper)) (fits_class files m s upper) (sym (fits_at_class files m s upper) ∙ e)
 
-  pub fits_over_parts : (m : ℕ) (s : TypeBase) (n : ℕ) (t : TypeBase) (k : ℕ) (u : TypeBase) → IsType files (type_of m s) → IsType files (type_of n t)
-      → Fits m s n t → Fits n t k u → Fits m s k u
-  fits_over_parts m s n t zero (Class upper) lower known first second =
-      elim (cases_Bool (is_interface (flags_of files upper))) [ inl is ↦ fits_interface m s upper is | inr never ↦ over_class m s n t upper lower known never first second ]
-  fits_over_parts m s n t zero u lower known first second = absurd (never_both (fits_ref files n t zero u) second (fits_no_type files n t u refl))
-  fits_over_parts m s zero t (suc k) u lower known first second = absurd (never_both (fits_ref files zero t (suc k) u) second (fits_no_array files t k u))
-  fits_over_parts zero s (suc n) t (suc k) u lower known first second = absurd (never_both (fits_ref files zero s (suc n) t) first (fits_no_array files s n t))
-  fits_over_parts (suc m) s (suc n) t (suc k) u lower known first second =
-      let one : fits_component files m s n t ≡ true = sym (fits_array files m s n t) ∙ first in
-      let two : fits_component files n t k u ≡ true = sym (fits_array files n t k u) ∙ second in
-      elim (cases_Bool (is_reference m s && is_reference n t)) [
-        | inl refer ↦
-            let both = and_parts (is_reference m s) (is_reference n t) refer in
-            let inner : Fits m s n t = sym (component_refs files m s n t both.0 both.1) ∙ one in
-            elim (cases_Bool (is_reference n t && is_reference k u)) [
-              | inl more ↦
-                  let last_two = and_parts (is_reference n t) (is_reference k u) more in
-                  let outer : Fits n t k u = sym (component_refs files n t k u last_two.0 last_two.1) ∙ two in
-                  fits_array files m s k u ∙ component_refs files m s k u both.0 last_two.1
-                  ∙ fits_over_parts m s n t k u (lower.0, has_dims m s both.0) (known.0, has_dims n t both.1) inner outer
-              | inr none ↦
-                  let is = primitive_parts n t k u (sym (component_others files n t k u none) ∙ two) in
-                  let P : ℕ → Type 0 = λ i. fits_ref files (suc m) s (suc i) u ≡ true in
-                  let Q : TypeBase → Type 0 = λ x. fits_ref files (suc m) s (suc n) x ≡ true in
-                  subst P (is.first ∙ sym is.second) (subst Q is.base first)
-            ]
-        | inr none ↦
-            let is = primitive_parts m s n t (sym (component_others files m s n t none) ∙ one) in
-            let P : ℕ → Type 0 = λ i. fits_ref files (suc i) s (suc k) u ≡ true in
-            let Q : TypeBase → Type 0 = λ x. fits_ref files (suc n) x (suc k) u ≡ true in
-            subst P (is.second ∙ sym is.first) (subst Q (sym is.base) second)
+  pub by_interface : (m : ℕ) (s : TypeBase) (upper : ℕ) → IsInterface upper → fits_ref files m s zero (Class upper) ≡ true
+  by_interface m s upper interface = fits_at_class files m s upper ∙ or_left (is_interface (flags_of files upper)) (fits_class files m s upper) interface
+
+  by_class : (m : ℕ) (s : TypeBase) (upper : ℕ) → fits_class files m s upper ≡ true → fits_ref files m s zero (Class upper) ≡ true
+  by_class m s upper e = fits_at_class files m s upper ∙ or_right (is_interface (flags_of files upper)) (fits_class files m s upper) e
+
+  -- each type fits java/lang/Object
+  pub object_fits : (m : ℕ) (s : TypeBase) → IsType files (type_of m s) → fits_ref files m s zero (Class object) ≡ true
+  object_fits zero (Class class) inside = by_class zero (Class class) object (above_to class object (top files rank is_ranked gathers class inside.0))
+  object_fits zero s inside = absurd (omega (arith, inside.1))
+  object_fits (suc m) s inside = by_class (suc m) s object refl
+
+  -- a class that a fitting class is below
+  class_over : (m : ℕ) (s : TypeBase) (by upper : ℕ) → IsType files (type_of m s) → fits_class files m s by ≡ true → Above files by upper → fits_ref files m s zero (Class upper) ≡ true
+  class_over zero (Class class) by upper inside e way =
+      by_class zero (Class class) upper (above_to class upper (over (superclass_of files) class by upper (above_from class by e) way))
+  class_over zero s by upper inside e way = absurd (omega (arith, inside.1))
+  class_over (suc m) s by upper inside e way =
+      let same : by ≡ object = eqb-true by object e in
+      subst (λ c. fits_ref files (suc m) s zero (Class c) ≡ true) (above_object upper (subst (λ c. Above files c upper) same way)) (object_fits (suc m) s inside)
+
+  -- ---- what fits what
+
+  over_class : (m : ℕ) (s : TypeBase) (by upper : ℕ) → IsType files (type_of m s) → IsClass files by → fits_ref files m s zero (Class by) ≡ true → Above files by upper → fits_ref files m s zero (Class upper) ≡ true
+  over_class m s by upper inside known e way =
+      elim (at_class m s by e) [
+        | inl interface ↦ elim (above_interface by upper known interface way) [
+          | inl same ↦ subst (λ c. fits_ref files m s zero (Class c) ≡ true) same e
+          | inr top ↦ subst (λ c. fits_ref files m s zero (Class c) ≡ true) top (object_fits m s inside)
+        ]
+        | inr fits ↦ class_over m s by upper inside fits way
       ]
 
-  -- a value of a type fits what the type fits
+  -- an array of what fits, where what it is of goes on to fit
+  arrays_over : (m : ℕ) (s : TypeBase) (n : ℕ) (t : TypeBase) (k : ℕ) (u : TypeBase) → IsType files (type_of (suc m) s) → IsType files (type_of (suc n) t)
+      → fits_ref files (suc m) s (suc n) t ≡ true → fits_ref files (suc n) t (suc k) u ≡ true
+      → (IsType files (type_of m s) → IsType files (type_of n t) → fits_ref files m s n t ≡ true → fits_ref files n t k u ≡ true → fits_ref files m s k u ≡ true)
+      → fits_ref files (suc m) s (suc k) u ≡ true
+  arrays_over m s n t k u first second e f goes =
+      components (cases_Bool (is_reference m s && is_reference n t)) (cases_Bool (is_reference n t && is_reference k u))
+    where
+      Goal : Type 0
+      Goal = fits_ref files (suc m) s (suc k) u ≡ true
+
+      one : fits_component files m s n t ≡ true
+      one = sym (fits_array files m s n t) ∙ e
+
+      two : fits_component files n t k u ≡ true
+      two = sym (fits_array files n t k u) ∙ f
+
+      both : (is_reference m s && is_reference n t) ≡ true → (is_reference n t && is_reference k u) ≡ true → Goal
+      both a b =
+          let lower = and_parts (is_reference m s) (is_reference n t) a in
+          let upper = and_parts (is_reference n t) (is_reference k u) b in
+          fits_array files m s k u ∙ component_refs files m s k u lower.0 upper.1
+          ∙ goes (component files m s first lower.0) (component files n t second lower.1)
+          (sym (component_refs files m s n t lower.0 lower.1) ∙ one) (sym (component_refs files n t k u upper.0 upper.1) ∙ two)
+
+      primitive : are_primitive m s n t ≡ true → Goal
+      primitive is =
+          let parts = primitive_parts m s n t is in
+          subst (λ b. fits_ref files (suc m) b (suc k) u ≡ true) (sym parts.base)
+          (subst (λ i. fits_ref files (suc i) t (suc k) u ≡ true) (parts.second ∙ sym parts.first) f)
+
+      components : ((is_reference m s && is_reference n t) ≡ true) ⊎ ((is_reference m s && is_reference n t) ≡ false)
+          → ((is_reference n t && is_reference k u) ≡ true) ⊎ ((is_reference n t && is_reference k u) ≡ false) → Goal
+      components (inl a) (inl b) = both a b
+      components (inr a) b = primitive (sym (component_others files m s n t a) ∙ one)
+      components (inl a) (inr b) =
+          let lower = and_parts (is_reference m s) (is_reference n t) a in
+          absurd (no_both (are_primitive n t k u) (sym (component_others files n t k u b) ∙ two) (reference_is_none n t k u lower.1))
+
+  pub refs_over : (m : ℕ) (s : TypeBase) (n : ℕ) (t : TypeBase) (k : ℕ) (u : TypeBase) → IsType files (type_of m s) → IsType files (type_of n t)
+      → fits_ref files m s n t ≡ true → fits_ref files n t k u ≡ true → fits_ref files m s k u ≡ true
+  refs_over m s zero (Class by) zero (Class upper) first second e f =
+      elim (at_class zero (Class by) upper f) [
+        | inl interface ↦ by_interface m s upper interface
+        | inr below ↦ over_class m s by upper first second.0 e (above_from by upper below)
+      ]
+  refs_over m s zero t zero (Class upper) first second e f = absurd (omega (arith, second.1))
+  refs_over m s (suc n) t zero (Class upper) first second e f =
+      elim (at_class (suc n) t upper f) [
+        | inl interface ↦ by_interface m s upper interface
+        | inr below ↦ subst (λ c. fits_ref files m s zero (Class c) ≡ true) (sym (eqb-true upper object below)) (object_fits m s first)
+      ]
+  refs_over m s n t zero u first second e f = absurd (no_both (fits_ref files n t zero u) f (fits_no_type files n t u refl))
+  refs_over m s zero t (suc k) u first second e f = absurd (no_both (fits_ref files zero t (suc k) u) f (fits_no_array files t k u))
+  refs_over zero s (suc n) t (suc k) u first second e f = absurd (no_both (fits_ref files zero s (suc n) t) e (fits_no_array files s n t))
+  refs_over (suc m) s (suc n) t (suc k) u first second e f = arrays_over m s n t k u first second e f (refs_over m s n t k u)
+
   pub fits_over : (lower by upper : TypeRef) → IsType files lower → IsType files by → fits files (known.Ref lower) by ≡ true → fits files (known.Ref by) upper ≡ true → fits files (known.Ref lower) upper ≡ true
-  fits_over lower by upper is known first second = fits_over_parts lower.dims lower.base by.dims by.base upper.dims upper.base is known first second
+  fits_over lower by upper first second e f = refs_over lower.dims lower.base by.dims by.base upper.dims upper.base first second e f
 
-  -- ---- what is below fits
+  -- ---- classes as types
 
-  base_same : (s t : TypeBase) → is_reference 0 t ≡ false → IsBaseBelow files s t → s ≡ t
-  base_same (Class a) (Class b) none h = cc
-  base_same s t none h = h
+  -- a class fits each class above it
+  pub class_fits_above : (class upper : ℕ) → Above files class upper → fits_ref files zero (Class class) zero (Class upper) ≡ true
+  class_fits_above class upper way = by_class zero (Class class) upper (above_to class upper way)
 
-  first_same : (s t : TypeBase) → is_reference 0 s ≡ false → IsBaseBelow files s t → s ≡ t
-  first_same (Class a) t none h = cc
-  first_same s t none h = h
+  pub class_fits_itself : (class : ℕ) → fits_ref files zero (Class class) zero (Class class) ≡ true
+  class_fits_itself class = class_fits_above class class Same
 
-  base_parts : (s t : TypeBase) → is_base_below files s t ≡ true → IsBaseBelow files s t
-  base_parts (Class a) (Class b) e = (subclass_says files a b).0 e
-  base_parts s t e = (primitive_parts 0 s 0 t e).base
+  pub class_fits_super : (class upper : ℕ) → superclass_of files class ≡ Some upper → fits_ref files zero (Class class) zero (Class upper) ≡ true
+  class_fits_super class upper e = class_fits_above class upper (Over upper e Same)
 
-  is_object_base : (t : TypeBase) → is_object t ≡ true → t ≡ Class 0
-  is_object_base (Class class) e = ap Class (eqb-true class 0 e)
-  is_object_base t e = cc
+  -- what a class fits and is no interface is itself or a superclass
+  pub super_fits : (class upper : ℕ) → is_interface (flags_of files upper) ≡ false → fits_ref files zero (Class class) zero (Class upper) ≡ true → Above files class upper
+  super_fits class upper never e =
+      elim (at_class zero (Class class) upper e) [ inl interface ↦ absurd (no_both (is_interface (flags_of files upper)) interface never) | inr below ↦ above_from class upper below ]
 
-  below_parts : (lower upper : TypeRef) → is_below files lower upper ≡ true → IsBelow files lower upper
-  below_parts lower upper e =
-      elim (or_cases (nat_eq lower.dims upper.dims && is_base_below files lower.base upper.base) (nat_lt upper.dims lower.dims && is_object upper.base) e) [
-        | inl equal ↦
-            let is = and_parts (nat_eq lower.dims upper.dims) (is_base_below files lower.base upper.base) equal in
-            inl (eqb-true lower.dims upper.dims is.0, base_parts lower.base upper.base is.1)
-        | inr fewer ↦
-            let is = and_parts (nat_lt upper.dims lower.dims) (is_object upper.base) fewer in
-            inr (ltb-true upper.dims lower.dims is.0, is_object_base upper.base is.1)
+  -- ---- arrays
+
+  -- no array fits a class that is no interface and not java/lang/Object
+  pub no_array_fits : (class : ℕ) → is_interface (flags_of files class) ≡ false → (class ≡ 0 → ⊥) → (array : TypeRef) → fits files (known.Ref array) (class_type class) ≡ true → array.dims ≡ 0
+  no_array_fits class never other array e = by_dims array.dims array.base e
+    where
+      by_dims : (dims : ℕ) (base : TypeBase) → fits_ref files dims base zero (Class class) ≡ true → dims ≡ 0
+      by_dims zero base h = refl
+      by_dims (suc dims) base h =
+          elim (at_class (suc dims) base class h) [ inl interface ↦ absurd (no_both (is_interface (flags_of files class)) interface never) | inr same ↦ absurd (other (eqb-true class object same)) ]
+
+  -- an array fits what java/lang/Object fits
+  pub array_fits_as_object : (m : ℕ) (s : TypeBase) (upper : ℕ) → fits_ref files zero (Class object) zero (Class upper) ≡ true → fits_ref files (suc m) s zero (Class upper) ≡ true
+  array_fits_as_object m s upper e =
+      elim (at_class zero (Class object) upper e) [
+        | inl interface ↦ by_interface (suc m) s upper interface
+        | inr below ↦ by_class (suc m) s upper (eq-eqb upper object (sym (above_object upper (above_from object upper below))))
       ]
 
-  one_less : (m : ℕ) (s : TypeBase) (n : ℕ) (t : TypeBase) → IsBelow files (type_of (suc m) s) (type_of (suc n) t) → IsBelow files (type_of m s) (type_of n t)
-  one_less m s n t (inl equal) = inl (omega (arith, equal.0), equal.1)
-  one_less m s n t (inr fewer) = inr (omega (arith, fewer.0), fewer.1)
-
-  and_false : (a b : Bool) → (a && b) ≡ false → (a ≡ false) ⊎ (b ≡ false)
-  and_false false b e = inl refl
-  and_false true b e = inr e
-
-  primitive_alone : (m : ℕ) (s : TypeBase) (n : ℕ) (t : TypeBase) → is_reference m s ≡ false → m ≡ n → s ≡ t → are_primitive m s n t ≡ true
-  primitive_alone m s n t none dims base =
-      subst (λ k. are_primitive m s k t ≡ true) dims (subst (λ x. are_primitive m s m x ≡ true) base (primitive_with_itself m s none).1)
-
-  -- a primitive type is below itself alone
-  same_primitive : (m : ℕ) (s : TypeBase) (n : ℕ) (t : TypeBase) → (is_reference m s && is_reference n t) ≡ false → IsBelow files (type_of m s) (type_of n t) → are_primitive m s n t ≡ true
-  same_primitive m s n t none (inl equal) =
-      elim (and_false (is_reference m s) (is_reference n t) none) [
-        | inl first ↦
-            let zero_dims = (primitive_with_itself m s first).0 in
-            primitive_alone m s n t first equal.0 (first_same s t (subst (λ k. is_reference k s ≡ false) zero_dims first) equal.1)
-        | inr second ↦
-            let zero_dims = (primitive_with_itself n t second).0 in
-            let base = base_same s t (subst (λ k. is_reference k t ≡ false) zero_dims second) equal.1 in
-            let first : is_reference m s ≡ false = subst (λ k. is_reference k s ≡ false) (sym equal.0) (subst (λ x. is_reference n x ≡ false) (sym base) second) in
-            primitive_alone m s n t first equal.0 base
+  -- and java/lang/Object fits what an array fits
+  pub object_fits_as_array : (m : ℕ) (s : TypeBase) (upper : ℕ) → fits_ref files (suc m) s zero (Class upper) ≡ true → fits_ref files zero (Class object) zero (Class upper) ≡ true
+  object_fits_as_array m s upper e =
+      elim (at_class (suc m) s upper e) [
+        | inl interface ↦ by_interface zero (Class object) upper interface
+        | inr below ↦ by_class zero (Class object) upper (above_to object upper (subst (Above files object) (sym (eqb-true upper object below)) Same))
       ]
-  same_primitive m s n t none (inr fewer) =
-      elim (and_false (is_reference m s) (is_reference n t) none) [
-        | inl first ↦ absurd (omega (arith, fewer.0, (primitive_with_itself m s first).0))
-        | inr second ↦
-            let e : is_reference n (Class 0) ≡ false = subst (λ x. is_reference n x ≡ false) fewer.1 second in
-            absurd (never_both (is_reference n (Class 0)) (object_refers n) e)
-      ]
-
-  leads_below : (lower upper : ℕ) → Leads (directly_below files) lower upper → IsSubtype files (class_type lower) (class_type upper)
-  leads_below lower upper (AtOnce e) = Super lower upper e
-  leads_below lower upper (ByWay by e rest) = Over (class_type by) (Super lower by e) (leads_below by upper rest)
-
-  below_class : (m : ℕ) (s : TypeBase) (upper : ℕ) → IsType files (type_of m s) → is_interface (flags_of files upper) ≡ false → IsBelow files (type_of m s) (class_type upper) → Fits m s 0 (Class upper)
-  below_class zero (Class class) upper lower never (inl equal) =
-      (below files gathers (class_type class) upper lower never).1
-      (elim (equal.1) [ inl same ↦ subst (λ c. IsSubtype files (class_type class) (class_type c)) same Same | inr leads ↦ leads_below class upper leads ])
-  below_class zero (Class class) upper lower never (inr fewer) = absurd (omega (arith, fewer.0))
-  below_class zero s upper lower never under = absurd (omega (arith, lower.1))
-  below_class (suc m) s upper lower never (inl equal) = absurd (omega (arith, equal.0))
-  below_class (suc m) s upper lower never (inr fewer) = fits_that (suc m) s upper lower (sym (class_of_base upper object fewer.1))
-
-  below_fits_parts : (m : ℕ) (s : TypeBase) (n : ℕ) (t : TypeBase) → IsType files (type_of m s) → HasDimensions n t → IsBelow files (type_of m s) (type_of n t) → Fits m s n t
-  below_fits_parts m s zero (Class upper) lower has under =
-      elim (cases_Bool (is_interface (flags_of files upper))) [ inl is ↦ fits_interface m s upper is | inr never ↦ below_class m s upper lower never under ]
-  below_fits_parts m s zero t lower has under = absurd (omega (arith, has))
-  below_fits_parts zero s (suc n) t lower has (inl equal) = absurd (omega (arith, equal.0))
-  below_fits_parts zero s (suc n) t lower has (inr fewer) = absurd (omega (arith, fewer.0))
-  below_fits_parts (suc m) s (suc n) t lower has under =
-      let less = one_less m s n t under in
-      elim (cases_Bool (is_reference m s && is_reference n t)) [
-        | inl refer ↦
-            let both = and_parts (is_reference m s) (is_reference n t) refer in
-            fits_array files m s n t ∙ component_refs files m s n t both.0 both.1 ∙ below_fits_parts m s n t (lower.0, has_dims m s both.0) (has_dims n t both.1) less
-        | inr none ↦ fits_array files m s n t ∙ component_others files m s n t none ∙ same_primitive m s n t none less
-      ]
-
-  pub below_fits : (lower upper : TypeRef) → IsType files lower → IsType files upper → is_below files lower upper ≡ true → fits files (known.Ref lower) upper ≡ true
-  below_fits lower upper is known e = below_fits_parts lower.dims lower.base upper.dims upper.base is known.1 (below_parts lower upper e)
-
-  base_itself : (s : TypeBase) → IsBaseBelow files s s
-  base_itself (Class class) = inl refl
-  base_itself s = refl
-
-  pub fits_itself : (type : TypeRef) → IsType files type → fits files (known.Ref type) type ≡ true
-  fits_itself type known = below_fits_parts type.dims type.base type.dims type.base known known.1 (inl (refl, base_itself type.base))

@@ -20,7 +20,7 @@ use Rattle.type_safety.specs.Facts.{BodyFacts}
 use Rattle.type_safety.specs.Fitting.{Tables, FrameFits, OthersWait, ObjectFits, StaticsFit, StateFits}
 use Rattle.type_safety.specs.Parts.{AreParts, StandsAt}
 use Rattle.type_safety.specs.Safety.{IsSet, MoveFits, method_of}
-use Rattle.type_safety.proofs.CallFits.{class_fits_above}
+use Rattle.type_safety.proofs.MachineThrows.{null_thrown, change_thrown}
 
 -- ---- the body of a method
 
@@ -144,9 +144,7 @@ module _ (world : World) (tables : Tables) where
   -- ---- throws
 
   pub null_throws : AreParts → IsSet world tables → (state : State) → StateFits world tables state → MoveFits world tables (throws world state state.frames null_pointer_exception)
-  null_throws parts set state fits =
-      parts.throwing world tables set state fits null_pointer_exception (inl (omega arith), refl, refl) (class_fits_above world.files set.closed 5 1 (Over 3 refl (Over 2 refl (Over 1 refl Same))))
+  null_throws parts set state fits = let thrown = null_thrown world set.closed in parts.throwing world tables set state fits null_pointer_exception thrown.concrete thrown.throwable
 
   pub change_throws : AreParts → IsSet world tables → (state : State) → StateFits world tables state → MoveFits world tables (throws world state state.frames incompatible_class_change_error)
-  change_throws parts set state fits =
-      parts.throwing world tables set state fits incompatible_class_change_error (inl (omega arith), refl, refl) (class_fits_above world.files set.closed 13 1 (Over 12 refl (Over 11 refl (Over 1 refl Same))))
+  change_throws parts set state fits = let thrown = change_thrown world set.closed in parts.throwing world tables set state fits incompatible_class_change_error thrown.concrete thrown.throwable

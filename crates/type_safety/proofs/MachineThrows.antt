@@ -1,16 +1,15 @@
 -- The classes that the machine throws are concrete, and Throwable is above them.
 use Rattle.std.proofs.Common.{◌≡◌, ℕ, ◌<◌, inl, List, Some, None, refl, ◌∙◌, arith}
 use Rattle.library.specs.Classes.{first_own}
-use Rattle.class_pool.specs.declared.types.TypeBase.TheVariants.{Class}
 use Rattle.class_file.specs.declared.record.ClassFile.{ClassFile}
 use Rattle.class_tree.specs.Set.{library_superclass}
 use Rattle.class_tree.specs.Tree.{Gathers}
-use Rattle.class_tree.proofs.CommonSuper.{Above, complete}
+use Rattle.class_tree.proofs.CommonSuper.{Above}
 use Rattle.class_tree.proofs.Forest.{Same, Over}
-use Rattle.class_tree.proofs.Superclasses.{ranked, super_by_library}
+use Rattle.class_tree.proofs.Superclasses.{super_by_library}
 use Rattle.typed_machine.specs.TypedWorld.{World}
 use Rattle.type_safety.specs.Facts.{IsConcrete, ClassFits}
-use Rattle.type_safety.proofs.FitsAbove.{fits_by_class}
+use Rattle.type_safety.proofs.FitsOver.{class_fits_above}
 
 -- ---- up to Throwable
 
@@ -39,7 +38,7 @@ pub record IsThrowable (world : World) (class : ℕ) : Type 0 where
 
 module _ (world : World) (gathers : Gathers world.files None) where
   above_fits : (class : ℕ) → Above world.files class 1 → ClassFits world class 1
-  above_fits class way = let rank = ranked world.files gathers in fits_by_class world.files gathers 0 (Class class) 1 (complete world.files rank.0 rank.1 class 1 way)
+  above_fits class way = class_fits_above world.files gathers class 1 way
 
   runtime_fits : (class : ℕ) → class < first_own → library_superclass class ≡ Some 3 → ClassFits world class 1
   runtime_fits class small super = above_fits class (up_from world.files class 3 small super (runtime_up world.files))

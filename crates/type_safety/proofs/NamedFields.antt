@@ -30,7 +30,8 @@ use Rattle.typed_machine.specs.TypedWorld.{World, kind_of}
 use Rattle.type_safety.specs.Facts.{IsStaticField, HasField, IsInstanceField}
 use Rattle.type_safety.proofs.SetLists.{not_true_is}
 use Rattle.type_safety.proofs.CodeRead.{IsRead}
-use Rattle.type_safety.proofs.ClassWays.{up_found, way_leads, all_lie, super_fits, no_interface_above, over_interface, over_object, no_array_fits}
+use Rattle.type_safety.proofs.ClassWays.{up_found, way_leads, all_lie, no_interface_above, over_interface}
+use Rattle.type_safety.proofs.FitsOver.{above_object, super_fits, no_array_fits}
 use Rattle.type_safety.proofs.Declared.{field_declared, no_interface_declares, flags_there}
 
 -- ---- tests that let through
@@ -132,9 +133,9 @@ module _ (world : World) (gathers : Gathers world.files None) (rank : ℕ → �
         kind = is.kind;
       } in
       record {
-        named = λ class concrete below. has class (over (superclass_of world.files) class used.class used.field.class (super_fits world.files gathers rank ranked class used.class class_is below) upper);
-        declared = λ class concrete below. has class (super_fits world.files gathers rank ranked class used.field.class declares.0 below);
-        no_array = no_array_fits world.files gathers rank ranked used.class class_is (λ zero_is. not_object (over_object world.files gathers rank ranked used.field.class (subst (λ (c : ℕ). Above world.files c used.field.class) zero_is upper)));
+        named = λ class concrete below. has class (over (superclass_of world.files) class used.class used.field.class (super_fits world.files gathers class used.class class_is below) upper);
+        declared = λ class concrete below. has class (super_fits world.files gathers class used.field.class declares.0 below);
+        no_array = no_array_fits world.files gathers used.class class_is (λ zero_is. not_object (sym (above_object world.files gathers used.field.class (subst (λ (c : ℕ). Above world.files c used.field.class) zero_is upper))));
       }
     where
       plain : (b : Bool) → (b ≡ true → ⊥) → b ≡ false

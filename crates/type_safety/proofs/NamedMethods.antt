@@ -33,7 +33,8 @@ use Rattle.type_safety.specs.Facts.{IsConcrete, ClassFits, Runs, Finds, NoArray,
 use Rattle.type_safety.proofs.SetLists.{not_true_is, false_is_true, true_or_false}
 use Rattle.type_safety.proofs.CodeRead.{IsRead}
 use Rattle.type_safety.proofs.NamedFields.{passed}
-use Rattle.type_safety.proofs.ClassWays.{fits_super, super_fits, no_interface_above, no_array_fits, class_over, subclass_is, answered}
+use Rattle.type_safety.proofs.ClassWays.{no_interface_above, class_over, subclass_is, answered}
+use Rattle.type_safety.proofs.FitsOver.{class_fits_above, super_fits, no_array_fits}
 use Rattle.type_safety.proofs.Declared.{HasFile, file_at, flags_there}
 use Rattle.type_safety.proofs.LibraryMethods.{library_above, library_method, static_or_constructor, native_concrete}
 use Rattle.type_safety.proofs.RunMethods.{IsCalled, method_of_file, own_file, abstract_is, has_code_where, interface_method, other_way, runs}
@@ -262,7 +263,7 @@ module _ (world : World) (gathers : Gathers world.files None) (rank : ℕ → �
               id = call.found;
               is = ap (λ b. if b then Some call.found else select files name (descriptor_of files call.found) class) (ap is_private flags ∙ private);
               runs = runs world read are call.found (use_of files call call.found) true (is_called call call.found call.found true fits.plain fits.type fits.named fits.static_is) (has_code_where files read call.found fits.named.declaration fits.named.there (not_abstract call.found fits.named.declaration fits.named.there (inr private)));
-              fits = fits_super files gathers rank ranked class call.found.class (no_interface_above files gathers rank ranked class call.found.class concrete.0 below never);
+              fits = class_fits_above files gathers class call.found.class (no_interface_above files gathers rank ranked class call.found.class concrete.0 below never);
             }
         | inr shared ↦
             let found = selects name descriptor plain fits.plain class concrete call.found fits.named fits.static_is shared below in
@@ -272,7 +273,7 @@ module _ (world : World) (gathers : Gathers world.files None) (rank : ℕ → �
               id = found.0;
               is = ap (λ b. if b then Some call.found else select files name (descriptor_of files call.found) class) (ap is_private flags ∙ shared) ∙ ap (λ (d : List ℕ). select files name d class) text ∙ found.1;
               runs = runs world read are found.0 (use_of files call call.found) true (is_called call call.found found.0 true fits.plain fits.type is.named is.static) found.2;
-              fits = fits_super files gathers rank ranked class found.0.class is.above;
+              fits = class_fits_above files gathers class found.0.class is.above;
             }
       ]
 
@@ -291,8 +292,8 @@ module _ (world : World) (gathers : Gathers world.files None) (rank : ℕ → �
       let upper = own_method call.0.named.member.name call.0.named.member.descriptor call.0.found fits.named fits.static_is plain in
       subst Virtual is (
         plain,
-        λ class concrete below. finds call.0 fits plain class concrete (supers_lead files gathers class call.0.class (super_fits files gathers rank ranked class call.0.class never below)),
-        no_array_fits files gathers rank ranked call.0.class never (λ zero_is.
+        λ class concrete below. finds call.0 fits plain class concrete (supers_lead files gathers class call.0.class (super_fits files gathers class call.0.class never below)),
+        no_array_fits files gathers call.0.class never (λ zero_is.
             let low = library_above files call.0.class call.0.found.class (omega (arith, zero_is)) fits.below in omega (arith, low, upper)),
       )
 

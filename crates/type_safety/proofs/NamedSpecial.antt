@@ -33,7 +33,7 @@ use Rattle.typed_machine.specs.TypedWorld.{World}
 use Rattle.type_safety.specs.Facts.{ClassFits, IsSpecial, is_named_constructor}
 use Rattle.type_safety.proofs.SetLists.{none_some, same_some, false_is_true}
 use Rattle.type_safety.proofs.CodeRead.{IsRead}
-use Rattle.type_safety.proofs.ClassWays.{fits_super, super_fits}
+use Rattle.type_safety.proofs.FitsOver.{class_fits_above, super_fits}
 use Rattle.type_safety.proofs.Declared.{flags_there}
 use Rattle.type_safety.proofs.LibraryMethods.{library_method, native_shared}
 use Rattle.type_safety.proofs.RunMethods.{method_of_file, method_rules, constructor_void, runs}
@@ -164,6 +164,6 @@ module _ (world : World) (gathers : Gathers world.files None) (rank : ℕ → �
         void = constructor_void world read are target.0 (use_of files call.0 target.0) called;
         other = λ plain class concrete below_named below_own. elim (found.other plain) [
           | inl same ↦ subst (λ (c : ℕ). ClassFits world class c) (sym same) below_own
-          | inr above ↦ fits_super files gathers rank ranked class target.0.class (over (superclass_of files) class from target.0.class (super_fits files gathers rank ranked class from own_class below_own) above)
+          | inr above ↦ class_fits_above files gathers class target.0.class (over (superclass_of files) class from target.0.class (super_fits files gathers class from own_class below_own) above)
         ];
       }) constructed

@@ -29,7 +29,7 @@ use Rattle.type_safety.specs.Fitting.{Tables, IsWhole, ValueFits, FrameFits, Kin
 use Rattle.type_safety.specs.Parts.{AreParts, StandsAt}
 use Rattle.type_safety.specs.Safety.{IsSet, MoveFits}
 use Rattle.type_safety.proofs.CallParts.{CallsFrom, native_goes_on}
-use Rattle.type_safety.proofs.CallLemmas.{StartingFits}
+use Rattle.type_safety.proofs.Lemmas.{StartingFits}
 
 -- a value of an int is a whole number
 whole_value : (world : World) (objects : List Object) (body : Body) (value : Value) → KindFits world objects kinds.Int value → IsWhole value

@@ -27,7 +27,7 @@ use Rattle.type_safety.proofs.Arguments.{Fitting, arguments_taken}
 use Rattle.type_safety.proofs.CallParts.{CallsFrom, body_starts, receiver_type, object_arguments}
 use Rattle.type_safety.proofs.EachLists.{each_drop, each_with, of_place}
 use Rattle.type_safety.proofs.GoingOn.{null_throws, change_throws}
-use Rattle.type_safety.proofs.CallLemmas.{StartingFits}
+use Rattle.type_safety.proofs.Lemmas.{StartingFits}
 use Rattle.type_safety.proofs.NativeMoves.{object_native_runs}
 
 -- a receiver as the method that is called takes it: a constructor an object that is not yet constructed

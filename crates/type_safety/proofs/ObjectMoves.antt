@@ -28,7 +28,7 @@ use Rattle.type_safety.specs.Fitting.{Tables, IsWhole, NamesObject, ValueFits, L
 use Rattle.type_safety.specs.Safety.{MoveFits}
 use Rattle.type_safety.proofs.Lemmas.{MoveLemma}
 use Rattle.type_safety.proofs.FieldKinds.{kind_default, field_declared}
-use Rattle.type_safety.proofs.FitsOver.{below_fits}
+use Rattle.type_safety.proofs.BelowFits.{below_fits}
 use Rattle.type_safety.proofs.GrownObjects.{next_name}
 use Rattle.type_safety.proofs.HeldValues.{object_type}
 use Rattle.type_safety.proofs.NextStates.{At, Follows, named, names_known, rule, plain_rule, Goes, goes_by, goes_to, grows, steady, append_follows, exception_thrown, object_at_fits}

@@ -30,7 +30,7 @@ use Rattle.type_safety.proofs.Arguments.{takes_parts, tests_length, as_type}
 use Rattle.type_safety.proofs.CallParts.{drop_more, CallRule, call_rule, CallsFrom, calls_from, receiver_type}
 use Rattle.type_safety.proofs.EachLists.{each_drop}
 use Rattle.type_safety.proofs.GoingOn.{RuleParts, rule_parts, facts_of}
-use Rattle.type_safety.proofs.CallLemmas.{MoveLemma, StartingFits}
+use Rattle.type_safety.proofs.Lemmas.{MoveLemma, StartingFits}
 use Rattle.type_safety.proofs.ObjectCalls.{IsReceiver, arguments_fit, on_receiver, on_object, change_thrown, runs_on}
 
 -- ---- receivers

@@ -36,7 +36,7 @@ use Rattle.type_safety.proofs.Arguments.{kept_narrows, kind_narrows, as_kind}
 use Rattle.type_safety.proofs.CallParts.{call_rule}
 use Rattle.type_safety.proofs.EachLists.{each_append, of_each}
 use Rattle.type_safety.proofs.GoingOn.{IsFound, found_body, RuleParts, rule_parts, going_on}
-use Rattle.type_safety.proofs.CallLemmas.{MoveLemma}
+use Rattle.type_safety.proofs.Lemmas.{MoveLemma}
 
 where_true : {X : Type 0} (b : Bool) (found : Option X) (x : X) → (if b then found else None) ≡ Some x → (b ≡ true) × (found ≡ Some x)
 where_true true found x e = (refl, e)

@@ -2,7 +2,7 @@
 use Rattle.std.proofs.Common.{◌≡◌, Some, sym, subst}
 use Rattle.jvm_model.specs.TypesFrames.{start_frame}
 use Rattle.type_order.proofs.Rules.{start-is-proper}
-use Rattle.type_safety.proofs.CallLemmas.{StartingFits}
+use Rattle.type_safety.proofs.Lemmas.{StartingFits}
 use Rattle.type_safety.proofs.Leaving.{arrives}
 use Rattle.type_safety.proofs.SetBodies.{body_of}
 use Rattle.type_safety.proofs.Values.{are_of_set}

@@ -22,7 +22,7 @@ use Rattle.typed_machine.specs.TypedStep as step
 use Rattle.typed_machine.specs.TypedWorld.{World, type_of}
 use Rattle.type_safety.specs.Fitting.{Tables, NamesObject, ValueFits, ObjectFits}
 use Rattle.type_safety.specs.Safety.{MoveFits}
-use Rattle.type_safety.proofs.FitsAbove.{class_above}
+use Rattle.type_safety.proofs.FitsOver.{refs_over}
 use Rattle.type_safety.proofs.Going.{IsAt, change_at, machine_throws, takes_one}
 use Rattle.type_safety.proofs.Lemmas.{MoveLemma}
 use Rattle.type_safety.proofs.MachineThrows.{null_thrown}
@@ -31,13 +31,6 @@ use Rattle.type_safety.proofs.Values.{all_at, are_of_set}
 
 module _ (world : World) (tables : Tables) (state : State) (frame : Frame) (others : List Frame) (body : Body) (types after : VFrame)
     (at : IsAt world tables state frame others body op.Throw types after) where
-  -- what fits a type that fits Throwable fits Throwable
-  up_to_throwable : (k : ℕ) (o : TypeBase) (n : ℕ) (t : TypeBase) → IsType world.files (record { dims = k; base = o }) → IsType world.files (record { dims = n; base = t })
-      → fits_ref world.files k o n t ≡ true → fits_ref world.files n t 0 (Class 1) ≡ true → fits_ref world.files k o 0 (Class 1) ≡ true
-  up_to_throwable k o zero (Class class) one two first second = class_above world.files at.set.closed class 1 k o one two.0 (sym (fits_at_class world.files 0 (Class class) 1) ∙ second) first
-  up_to_throwable k o zero t one two first second = absurd (omega (arith, two.1))
-  up_to_throwable k o (suc n) t one two first second = let f : false ≡ true = sym (fits_at_class world.files (suc n) t 1) ∙ second in cc
-
   no_array : (dims : ℕ) (of : TypeBase) → 1 ≤ dims → fits_ref world.files dims of 0 (Class 1) ≡ true → ⊥
   no_array zero of some e = absurd (omega (arith, some))
   no_array (suc dims) of some e = let f : false ≡ true = sym (fits_at_class world.files (suc dims) of 1) ∙ e in cc
@@ -56,7 +49,7 @@ module _ (world : World) (tables : Tables) (state : State) (frame : Frame) (othe
       let object = named.object in
       let fit = all_at (ObjectFits world state.objects) state.objects at.fits.objects named.name object named.there in
       let of_set = are_of_set world state.objects at.fits.objects named.name object named.there in
-      let up = up_to_throwable (type_of object).dims (type_of object).base type.dims type.base of_set inside named.has throwable in
+      let up = refs_over world.files at.set.closed (type_of object).dims (type_of object).base type.dims type.base 0 (Class 1) of_set inside named.has throwable in
       subst (λ v. MoveFits world tables (with_object_of world state (frame ∷ others) v (λ name object. step.throw_class world state (frame ∷ others) name object))) (sym named.is)
       (subst (λ found. MoveFits world tables (option_map_or (λ object. step.throw_class world state (frame ∷ others) named.name object) found Stuck)) (sym named.there)
       (throws_at named.name object named.there fit up))

@@ -33,7 +33,7 @@ use Rattle.type_safety.specs.Facts.{ClassFits}
 use Rattle.type_safety.specs.Fitting.{Tables, ValueFits, LocalFits, ObjectFits, YoungestFits, Waits, OthersWait, FramesFit, StateFits}
 use Rattle.type_safety.specs.Parts.{GrownFits, ThrowsFit, ObjectThrowsFit}
 use Rattle.type_safety.specs.Safety.{IsSet, MoveFits}
-use Rattle.type_safety.proofs.FitsAbove.{subclass_fits}
+use Rattle.type_safety.proofs.BelowFits.{subclass_fits}
 use Rattle.type_safety.proofs.Growing.{growing_fits, grown_append, objects_stay, statics_stay}
 use Rattle.type_safety.proofs.Leaving.{arrives}
 use Rattle.type_safety.proofs.NewObject.{new_object_fits}

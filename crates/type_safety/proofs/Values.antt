@@ -20,7 +20,7 @@ use Rattle.jvm_model.specs.TypesFrames.{may_be_local, may_be_operand, merge_list
 use Rattle.typed_machine.specs.TypedState.{Object, Instance, Elements, Frame}
 use Rattle.typed_machine.specs.TypedWorld.{World, type_of}
 use Rattle.type_safety.specs.Fitting.{ValueFits, LocalFits, FrameFits, ObjectFits}
-use Rattle.type_safety.proofs.FitsAbove.{ref_above}
+use Rattle.type_safety.proofs.BelowFits.{ref_above}
 
 -- ---- merges, by their parts
 
