@@ -1,35 +1,28 @@
 -- What is above a class by each way up, and where lookups that go up end.
-use Rattle.std.proofs.Common.{◌≡◌, inl, inr, ℕ, zero, suc, true, false, ◌||◌, List, [], ◌∷◌, map, nat_eq, Option, Some, None, refl, sym, ap, subst, ◌∙◌, arith, eqb-true}
+use Rattle.std.proofs.Common.{◌≡◌, inl, inr, ℕ, zero, suc, true, false, List, [], ◌∷◌, map, Option, Some, None, refl, sym, ap, subst, ◌∙◌, arith}
 use Rattle.std.specs.List.{AllByRecursion, Contains}
 use Rattle.std.specs.Option.{option_or, option_to_list}
 use Rattle.class_pool.specs.declared.types.MemberId.{MemberId}
-use Rattle.class_pool.specs.declared.types.TypeRef.{TypeRef}
-use Rattle.class_pool.specs.declared.types.TypeBase.{TypeBase}
-use Rattle.class_pool.specs.declared.types.TypeBase.TheVariants.{Class}
 use Rattle.class_file.specs.declared.record.ClassFile.{ClassFile}
 use Rattle.class_file.specs.Rules.{is_interface}
-use Rattle.body_form.specs.declared.types.VType.TheVariants as known
 use Rattle.class_tree.specs.Set.{own_name, flags_of, IsClass}
 use Rattle.class_tree.specs.Closure.{AtOnce}
-use Rattle.class_tree.specs.Subtypes.{directly_below, IsSubclass, class_type}
+use Rattle.class_tree.specs.Subtypes.{directly_below, IsSubclass}
 use Rattle.class_tree.specs.AccessTests.{is_subclass}
-use Rattle.class_tree.specs.Merge.{is_class_or_super}
-use Rattle.class_tree.specs.Fits.{fits, fits_class}
 use Rattle.class_tree.specs.Tree.{Gathers}
 use Rattle.class_tree.specs.InterfaceLookup.{object}
 use Rattle.class_tree.specs.DirectSupers.{superclass_of, superclasses_of, superinterfaces_of, all_supers_of}
 use Rattle.class_tree.specs.Upwards.{first_answer, first_upwards}
 use Rattle.class_tree.specs.MethodLookup.{first_in_superclasses}
-use Rattle.type_safety.proofs.TreeClimbing.{answer_one, all_append}
+use Rattle.class_tree.proofs.Climbing.{answer_one, all_append}
 use Rattle.class_tree.proofs.Forest.{Same, Over, step, last}
-use Rattle.type_safety.proofs.TreeLeading.{or_cases, or_right, follows}
+use Rattle.class_tree.proofs.Leading.{follows}
 use Rattle.class_tree.proofs.TestedAccess.{subclass_says}
-use Rattle.class_tree.proofs.RefParts.{fits_at_class}
 use Rattle.class_tree.proofs.Superclasses.{IsRanked}
-use Rattle.type_safety.proofs.TreeSupersAbove.{superclasses_above, superinterfaces_above}
-use Rattle.class_tree.proofs.CommonSuper.{Above, sound, complete}
-use Rattle.type_safety.proofs.TreeSubtypeFits.{interface_super, by_supers}
-use Rattle.type_safety.proofs.TreeLookupRules.{superclasses_ruled}
+use Rattle.class_tree.proofs.SupersAbove.{superclasses_above, superinterfaces_above}
+use Rattle.class_tree.proofs.CommonSuper.{Above}
+use Rattle.class_tree.proofs.SubtypeFits.{interface_super, by_supers}
+use Rattle.class_tree.proofs.LookupRules.{superclasses_ruled}
 use Rattle.type_safety.proofs.SetLists.{none_some, all_contained, in_head, in_tail, false_is_true}
 
 -- ---- ways up

@@ -18,7 +18,7 @@ use Rattle.class_tree.specs.MethodLookup.{first_in_superclasses, method_of_super
 use Rattle.class_tree.specs.Selection.{is_selectable, select}
 use Rattle.class_tree.proofs.CommonSuper.{Above, top}
 use Rattle.class_tree.proofs.Superclasses.{IsRanked}
-use Rattle.type_safety.proofs.TreeSubtypeFits.{supers_lead}
+use Rattle.class_tree.proofs.SubtypeFits.{supers_lead}
 use Rattle.jvm_model.specs.declared.refusal.Refusal.{Refusal}
 use Rattle.jvm_model.specs.Phases.{refusal_of_insn}
 use Rattle.jvm_model.specs.BuiltForm.{FirstOf}

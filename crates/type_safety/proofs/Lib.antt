@@ -112,12 +112,3 @@ mod ReturnMoves
 mod AllMoves
 -- moves from a state that fits lead to states that fit
 mod SafeRuns
-mod TreeAcyclic
-mod TreeClimbing
-mod TreeCounting
-mod TreeLeading
-mod TreeLookupRules
-mod TreeSubtypeFits
-mod TreeSubtyping
-mod TreeSupersAbove
-mod TreeWithin

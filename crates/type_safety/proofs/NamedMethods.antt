@@ -21,7 +21,7 @@ use Rattle.class_tree.specs.DirectSupers.{class_count}
 use Rattle.class_tree.specs.Members.{Declaration, methods_of, method_flags, method_passing}
 use Rattle.class_tree.specs.Selection.{is_selectable, select}
 use Rattle.class_tree.proofs.Superclasses.{IsRanked}
-use Rattle.type_safety.proofs.TreeSubtypeFits.{supers_lead}
+use Rattle.class_tree.proofs.SubtypeFits.{supers_lead}
 use Rattle.jvm_model.specs.declared.refusal.Cause.TheVariants.{Unresolved, WrongKind, Denied}
 use Rattle.jvm_model.specs.Bodies.{AreBodies}
 use Rattle.jvm_model.specs.Linking.{Linking}
