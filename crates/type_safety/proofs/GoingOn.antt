@@ -1,12 +1,11 @@
 -- A frame goes on behind its instruction, where it fits what the instruction's rule leaves; and what throws throws.
-use Rattle.std.proofs.Common.{◌≡◌, ℕ, suc, Bool, true, false, ◌&&◌, not, nat_eq, inl, List, [], ◌∷◌, Option, Some, None, option_and_then, if◌then◌else◌, refl, sym, ap, subst, ◌∙◌, arith}
+use Rattle.std.proofs.Common.{◌≡◌, ℕ, suc, Bool, true, false, ◌&&◌, not, nat_eq, List, [], ◌∷◌, Option, Some, None, option_and_then, if◌then◌else◌, refl, sym, ap, subst, ◌∙◌, arith}
 use Rattle.std.specs.List.{AllByRecursion, Contains}
 use Rattle.std.proofs.lemmas.Bool.{and_parts, eqb-true}
 use Rattle.std.proofs.lemmas.Option.{same_Some, cond_some}
 use Rattle.account.specs.Account.{Event, Need}
 use Rattle.class_pool.specs.declared.types.MemberId.{MemberId}
 use Rattle.class_file.specs.declared.record.ClassFile.{ClassFile}
-use Rattle.class_tree.proofs.Forest.{Same, Over}
 use Rattle.body_form.specs.declared.body.Body.{Body}
 use Rattle.body_form.specs.declared.op.Op.{Op}
 use Rattle.body_form.specs.declared.types.VFrame.{VFrame}

@@ -1,5 +1,5 @@
 -- Moves from a state that fits lead to states that fit.
-use Rattle.std.proofs.Common.{◌≡◌, ℕ, List, subst}
+use Rattle.std.proofs.Common.{subst}
 use Rattle.typed_machine.specs.TypedState.{State}
 use Rattle.typed_machine.specs.TypedWorld.{World}
 use Rattle.type_safety.specs.Fitting.{Tables, StateFits}

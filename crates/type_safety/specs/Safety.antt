@@ -1,9 +1,8 @@
 -- Typed code is never stuck: from a state that fits there is a move, and the next state fits.
-use Rattle.std.specs.Prelude.{◌≡◌, ℕ, List, Option, Some, None, is_some}
-use Rattle.std.specs.List.{AllByRecursion, Contains}
-use Rattle.account.specs.Account.{Event, Need, Move, Does, Stops, Stuck}
+use Rattle.std.specs.Prelude.{◌≡◌, ℕ, List, Some, None}
+use Rattle.std.specs.List.{AllByRecursion}
+use Rattle.account.specs.Account.{Event, Need, Does, Stops, Stuck}
 use Rattle.class_pool.specs.declared.types.MemberId.{MemberId}
-use Rattle.class_file.specs.declared.record.ClassFile.{ClassFile}
 use Rattle.class_tree.specs.Tree.{Gathers}
 use Rattle.body_form.specs.declared.body.Body.{Body}
 use Rattle.jvm_model.specs.Bodies.{AreBodies}
