@@ -1,6 +1,6 @@
 -- What the texts of a pool are, index by index: which of them are the same, and what each is as a
 -- descriptor. By that the members that were read are known again.
-use Rattle.std.specs.Prelude.{◌≡◌, ℕ, min, Bool, false, List, Option, Some, None, is_some, option_map, option_and_then, unwrap_or, IsSome, sum_by, slice_get}
+use Rattle.std.specs.Prelude.{◌≡◌, ℕ, min, Bool, false, List, Option, Some, None, is_some, option_map, option_and_then, unwrap_or, IsSome, sum_by, slice_get, Result, Ok, Err}
 use Rattle.std.specs.Borrow.{Bor}
 use Rattle.std.specs.BTreeMap.{BTreeMap, get_by}
 use Rattle.std.specs.BTreeSet.{BTreeSet, contains}
@@ -8,10 +8,14 @@ use Rattle.std.specs.declared.cmp.Ordering.{Ordering}
 use Rattle.std.specs.Ordering.{nat_cmp, ordering_then}
 use Rattle.std.specs.Cmp.Lexicographic.{slice_cmp}
 use Rattle.class_pool.specs.declared.descriptor.Descriptor.{Descriptor}
+use Rattle.class_pool.specs.declared.descriptor.DescriptorRefusal.{DescriptorRefusal}
+use Rattle.class_pool.specs.declared.descriptor.DescriptorRefusal.TheVariants.{BadDescriptor, Memory as OutOfMemory}
 use Rattle.class_pool.specs.Pool.{Slots, utf8_at}
 use Rattle.class_pool.specs.DescriptorReading.{field_of, method_of}
 use Rattle.class_file.specs.declared.head.Head.{Head}
 use Rattle.class_file.specs.declared.record.Member.{Member}
+use Rattle.class_file.specs.declared.refusal.ReadRefusal.{ReadRefusal}
+use Rattle.class_file.specs.declared.refusal.ReadRefusal.TheVariants.{Memory}
 use Rattle.class_file.specs.declared.texts.MethodShape.{MethodShape}
 use Rattle.class_file.specs.declared.texts.TextRow.{TextRow}
 use Rattle.class_file.specs.Rules.{slots_of}
@@ -67,6 +71,11 @@ number_in numbers text = get_by (λ key. slice_cmp nat_cmp text key.now) numbers
 pub record AreNumbered (pool : Slots) (number : List ℕ → Option ℕ) : Type 0 where
   pub named : (text : List ℕ) (index : ℕ) → number text ≡ Some index → utf8_at pool index ≡ Some text
   pub all : (index : ℕ) (text : List ℕ) → utf8_at pool index ≡ Some text → IsSome (number text)
+
+-- what is answered for a text that was not read: that it is no descriptor, unless memory ran out
+abbrev pub unless_memory : {A : Type 0} → A → DescriptorRefusal → Result A ReadRefusal
+unless_memory none BadDescriptor = Ok none
+unless_memory none OutOfMemory = Err Memory
 
 -- the row of a text, and of a place without one
 abbrev pub text_row : (List ℕ → Option ℕ) → List ℕ → TextRow

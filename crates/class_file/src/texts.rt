@@ -6,7 +6,7 @@ ghost use Rattle.class_pool.specs.DescriptorReading.{field_of, method_of};
 ghost use Rattle.class_file.specs.declared.refusal.ReadRefusal.TheVariants.{Memory};
 ghost use Rattle.class_file.specs.Rules.{slots_of};
 ghost use Rattle.class_file.specs.Reading.{Gives};
-ghost use Rattle.class_file.specs.Texts.{shape_of, same_at, is_field_at, shape_at, AreTexts, number_in, AreNumbered, text_row, row_at};
+ghost use Rattle.class_file.specs.Texts.{unless_memory, shape_of, same_at, is_field_at, shape_at, AreTexts, number_in, AreNumbered, text_row, row_at};
 
 use crate::refusal::ReadRefusal;
 use class_pool::{
@@ -69,14 +69,23 @@ fn shape_of(descriptor: &Descriptor) -> MethodShape
     }
 }
 
+/// What is answered for a text that was not read: that it is no descriptor, unless memory ran out.
+fn unless_memory<T: Copy>(none: T, why: DescriptorRefusal) -> Result<T, ReadRefusal>
+    ensures { result ≡ unless_memory none why }
+{
+    match why {
+        DescriptorRefusal::BadDescriptor => Ok(none),
+        DescriptorRefusal::Memory => Err(ReadRefusal::Memory),
+    }
+}
+
 /// The text is a field's descriptor.
 fn is_field(alloc: Global, text: &[u8]) -> Result<bool, ReadRefusal>
     ensures { Gives (λ x. x) result (Ok (is_some (field_of text.now))) }
 {
     match read_field_descriptor(alloc, text) {
         Ok(_) => Ok(true),
-        Err(DescriptorRefusal::BadDescriptor) => Ok(false),
-        Err(DescriptorRefusal::Memory) => Err(ReadRefusal::Memory),
+        Err(why) => unless_memory(false, why),
     }
 }
 
@@ -86,8 +95,7 @@ fn method_shape(alloc: Global, text: &[u8]) -> Result<Option<MethodShape>, ReadR
 {
     match read_descriptor(alloc, text) {
         Ok(descriptor) => Ok(Some(shape_of(&descriptor))),
-        Err(DescriptorRefusal::BadDescriptor) => Ok(None),
-        Err(DescriptorRefusal::Memory) => Err(ReadRefusal::Memory),
+        Err(why) => unless_memory(None, why),
     }
 }
 
