@@ -12,5 +12,6 @@ pub mod Scans
 pub mod ClassNames
 pub mod FieldTypes
 pub mod Parameters
+pub mod Skips
 pub mod Calls
 pub mod Spacing

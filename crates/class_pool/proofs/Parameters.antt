@@ -204,14 +204,14 @@ regroup : (prefix : List Kind) (kind : Kind) (read : Option Params) → with_pre
 regroup prefix kind (Some x) = ap (λ (kinds : List Kind). some (kinds, x.1)) (simp append_assoc)
 regroup prefix kind None = refl
 
-room_left : (most i : ℕ) → i < most → most - i ≡ suc (most - (i + 1))
+pub room_left : (most i : ℕ) → i < most → most - i ≡ suc (most - (i + 1))
 room_left most i lt = omega arith
 
-one_on : (most : ℕ) (text : List ℕ) → after_close text ≡ None → params_at (suc most) text ≡ goes_on most text
+pub one_on : (most : ℕ) (text : List ℕ) → after_close text ≡ None → params_at (suc most) text ≡ goes_on most text
 unfolding params_at
 one_on most text e = ap (λ (close : Option (List ℕ)). closed close (goes_on most text)) e
 
-one_closed : (most : ℕ) (text rest : List ℕ) → after_close text ≡ Some rest → params_at (suc most) text ≡ Some ([], rest)
+pub one_closed : (most : ℕ) (text rest : List ℕ) → after_close text ≡ Some rest → params_at (suc most) text ≡ Some ([], rest)
 unfolding params_at
 one_closed most text rest e = ap (λ (close : Option (List ℕ)). closed close (goes_on most text)) e
 

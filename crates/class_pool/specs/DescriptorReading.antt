@@ -24,6 +24,10 @@ Reads view (Err Memory) read = Unit {0}
 abbrev pub Answers : {X : Type 0} → Result X DescriptorRefusal → Option X → Type 0
 Answers result answer = Reads (λ x. x) result answer
 
+-- what follows a value that is read
+abbrev pub suffix_of : {X : Type 0} → Option (X × List ℕ) → Option (List ℕ)
+suffix_of read = option_map (λ x. x.1) read
+
 -- ---- class names
 
 -- whether a part of a name begins after a byte, where the name goes on with it

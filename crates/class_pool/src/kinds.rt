@@ -1,43 +1,15 @@
 //! The types in a descriptor (JVMS 4.3.2).
 
-ghost use Rattle.std.specs.Prelude.{◌≡◌, ◌≤◌, ◌<◌, true, ℕ, Option, Some, None, length, IfSome, IfOk, IsErrOf};
+ghost use Rattle.std.specs.Prelude.{◌≡◌, ◌↔◌, Some, Err, IfOk};
 ghost use Rattle.class_pool.specs.declared.descriptor.Kind.{Kind as FieldType};
 ghost use Rattle.class_pool.specs.Descriptors.{IsFieldText};
-ghost use Rattle.class_pool.specs.DescriptorReading.{Reads, Answers, after_byte, name_size, class_at, plain_base, base_at, brackets, plain_kind, kind_with, kind_at, field_of};
+ghost use Rattle.class_pool.specs.DescriptorReading.{Reads, Answers, class_at, base_at, plain_kind, kind_with, kind_at, field_of};
 
 use crate::descriptor::{Base, DescriptorRefusal, Kind};
 use crate::pool::Text;
+use crate::scan::{brackets, is_field_text, name_size, plain_base};
 use item_list::Items;
 use std::alloc::Global;
-
-/// Whether a part of a class name begins after this byte, where the name goes on with it.
-fn after_byte(begins: bool, byte: u8) -> Option<bool>
-    ensures { result ≡ after_byte begins byte }
-{
-    match byte {
-        b'/' if begins => None,
-        b'/' => Some(true),
-        b'.' | b';' | b'[' => None,
-        _ => Some(false),
-    }
-}
-
-/// How many bytes the class name at the prefix has (JVMS 4.2.1), up to its `;`.
-fn name_size(text: &[u8]) -> Option<usize>
-    ensures value { result ≡ name_size true text.now }
-    ensures within { IfSome result (λ size. size < length text.now) }
-{
-    let mut begins = true;
-    let mut size = 0;
-    for byte in text {
-        if *byte == b';' {
-            return if begins { None } else { Some(size) };
-        }
-        begins = after_byte(begins, *byte)?;
-        size += 1;
-    }
-    None
-}
 
 /// The class name at the prefix, and what follows its `;`.
 #[tactic(auto, unfolding(crate::specs::DescriptorReading::class_at))]
@@ -50,23 +22,6 @@ fn class_at(alloc: Global, text: &[u8]) -> Result<(Text, &[u8]), DescriptorRefus
             Ok((Items::from_vec(name), &text[size + 1..]))
         }
         None => Err(DescriptorRefusal::BadDescriptor),
-    }
-}
-
-/// The type of a letter.
-fn plain_base(letter: u8) -> Option<Base>
-    ensures { result ≡ plain_base letter }
-{
-    match letter {
-        b'B' => Some(Base::Byte),
-        b'C' => Some(Base::Char),
-        b'D' => Some(Base::Double),
-        b'F' => Some(Base::Float),
-        b'I' => Some(Base::Int),
-        b'J' => Some(Base::Long),
-        b'S' => Some(Base::Short),
-        b'Z' => Some(Base::Boolean),
-        _ => None,
     }
 }
 
@@ -86,21 +41,6 @@ fn base_at(alloc: Global, text: &[u8]) -> Result<(Base, &[u8]), DescriptorRefusa
             None => Err(DescriptorRefusal::BadDescriptor),
         },
     }
-}
-
-/// How many `[` are at the prefix.
-fn brackets(text: &[u8]) -> usize
-    ensures value { result ≡ brackets text.now }
-    ensures within { result ≤ length text.now }
-{
-    let mut dims = 0;
-    for letter in text {
-        if *letter != b'[' {
-            return dims;
-        }
-        dims += 1;
-    }
-    dims
 }
 
 /// The type itself.
@@ -163,12 +103,14 @@ pub fn read_field_descriptor(alloc: Global, text: &[u8]) -> Result<Kind, Descrip
     // The descriptor of a type is read, unless memory runs out.
     ensures only { (kind : FieldType) → IsFieldText text.now kind → Answers result (Some kind) }
 
-    // Other texts are refused, unless memory runs out, and no descriptor is.
-    ensures refused { IsErrOf result DescriptorRefusal.BadDescriptor → (kind : FieldType) → IsFieldText text.now kind → ⊥ }
-    ensures refused_only { ((kind : FieldType) → IsFieldText text.now kind → ⊥) → Answers result None }
+    // Exactly the other texts are refused, before memory is asked for.
+    ensures refused { (result ≡ Err DescriptorRefusal.BadDescriptor) ↔ ((kind : FieldType) → IsFieldText text.now kind → ⊥) }
 
     // Which type it is, or none.
     ensures exact { Answers result (field_of text.now) }
 {
+    if !is_field_text(text) {
+        return Err(DescriptorRefusal::BadDescriptor);
+    }
     field_of(alloc, text)
 }

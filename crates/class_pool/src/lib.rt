@@ -14,6 +14,7 @@ mod methods;
 mod names;
 mod pool;
 mod refusal;
+mod scan;
 mod slots;
 mod tag;
 mod types;

@@ -1,25 +1,15 @@
 //! The descriptor of a method (JVMS 4.3.3).
 
-ghost use Rattle.std.specs.Prelude.{◌≡◌, Option, Some, None, List, length, IfOk, IsErrOf};
-ghost use Rattle.std.specs.Option.{option_copied};
+ghost use Rattle.std.specs.Prelude.{◌≡◌, ◌↔◌, Some, Err, length, IfOk};
 ghost use Rattle.class_pool.specs.declared.descriptor.Descriptor.{Descriptor as Record};
 ghost use Rattle.class_pool.specs.Descriptors.{IsMethodText};
-ghost use Rattle.class_pool.specs.DescriptorReading.{Reads, Answers, after_close, params_at, result_of, method_of};
+ghost use Rattle.class_pool.specs.DescriptorReading.{Reads, Answers, params_at, result_of, method_of};
 
 use crate::descriptor::{Descriptor, DescriptorRefusal, Kind};
 use crate::kinds::{field_of, kind_at};
+use crate::scan::{after_close, is_method_text};
 use item_list::Items;
 use std::alloc::Global;
-
-/// What follows a `)`.
-fn after_close(text: &[u8]) -> Option<&[u8]>
-    ensures { option_copied result ≡ after_close text.now }
-{
-    match text {
-        [b')', rest @ ..] => Some(rest),
-        _ => None,
-    }
-}
 
 /// The types of the parameters, and what follows their `)`.
 fn params_at(alloc: Global, text: &[u8]) -> Result<(Vec<Kind>, &[u8]), DescriptorRefusal>
@@ -78,12 +68,14 @@ pub fn read_descriptor(alloc: Global, text: &[u8]) -> Result<Descriptor, Descrip
     // The text of a descriptor is read, unless memory runs out.
     ensures only { (descriptor : Record) → IsMethodText text.now descriptor → Answers result (Some descriptor) }
 
-    // Other texts are refused, unless memory runs out, and no descriptor is.
-    ensures refused { IsErrOf result DescriptorRefusal.BadDescriptor → (descriptor : Record) → IsMethodText text.now descriptor → ⊥ }
-    ensures refused_only { ((descriptor : Record) → IsMethodText text.now descriptor → ⊥) → Answers result None }
+    // Exactly the other texts are refused, before memory is asked for.
+    ensures refused { (result ≡ Err DescriptorRefusal.BadDescriptor) ↔ ((descriptor : Record) → IsMethodText text.now descriptor → ⊥) }
 
     // Which descriptor it is, or none.
     ensures exact { Answers result (method_of text.now) }
 {
+    if !is_method_text(text) {
+        return Err(DescriptorRefusal::BadDescriptor);
+    }
     method_of(alloc, text)
 }

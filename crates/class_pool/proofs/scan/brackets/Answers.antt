@@ -1,6 +1,6 @@
 use Rattle.std.proofs.Common.{arith}
 use Rattle.class_pool.proofs.Scans.{bracket, no_bracket, no_letter}
-use Rattle.class_pool.proofs.kinds.brackets.Goals as goal
+use Rattle.class_pool.proofs.scan.brackets.Goals as goal
 
 pub returns-then-letter-ne91-clause-value : goal.returns-then-letter-ne91-clause-value
 returns-then-letter-ne91-clause-value c = omega (arith, no_bracket c.args.text.now c.loop-letter.letter-index c.loop-letter-test.true c.if-letter-ne91.true, c.loop-letter.invariant.so_far)

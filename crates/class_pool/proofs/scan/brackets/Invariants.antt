@@ -1,6 +1,6 @@
 use Rattle.std.proofs.Common.{◌≡◌, ◌+◌, drop}
 use Rattle.class_pool.specs.DescriptorReading.{brackets}
-use Rattle.class_pool.proofs.kinds.brackets.Given as goal
+use Rattle.class_pool.proofs.scan.brackets.Given as goal
 
 -- the letters so far are brackets, and the rest decides
 abbrev pub invariant-loop-letter : goal.invariant-loop-letter

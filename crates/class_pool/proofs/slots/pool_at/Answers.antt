@@ -1,4 +1,4 @@
-use Rattle.std.proofs.Common.{◌≡◌, ◌-◌, ◌<◌, ◌^◌, false, length, arith}
+use Rattle.std.proofs.Common.{◌-◌, false, arith}
 use Rattle.byte_read.proofs.Steps.{u2_takes}
 use Rattle.class_pool.specs.declared.refusal.PoolRefusal.TheVariants.{Truncated}
 use Rattle.class_pool.proofs.Pools.{count_read}

@@ -1,6 +1,5 @@
-use Rattle.std.proofs.Common.{◌≡◌, rules, subst}
-use Rattle.std.specs.Option.{option_copied}
-use Rattle.class_pool.specs.Pool.{entry_at, AreSpaced}
+use Rattle.std.proofs.Common.{rules, subst}
+use Rattle.class_pool.specs.Pool.{AreSpaced}
 use Rattle.class_pool.proofs.Spacing.{none_tells}
 use Rattle.class_pool.proofs.pool.Pool.get.Goals as goal
 
