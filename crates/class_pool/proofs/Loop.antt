@@ -1,14 +1,14 @@
 -- Reading places one after the other, as a loop does.
-use Rattle.std.proofs.Common.{◌≡◌, ℕ, zero, suc, ◌-◌, ◌+◌, ◌≤◌, ◌<◌, Bool, List, [], ◌∷◌, ◌++◌, length, Option, Result, Ok, Err, refl, sym, ap, subst, ◌∙◌, append_assoc, add-one, arith, inl, inr}
+use Rattle.std.proofs.Common.{◌≡◌, ℕ, zero, suc, ◌-◌, ◌+◌, ◌≤◌, ◌<◌, Bool, false, List, [], ◌∷◌, ◌++◌, length, Option, Result, Ok, Err, refl, sym, ap, subst, ◌∙◌, append_assoc, add-one, arith, inl, inr}
 use Rattle.std.proofs.lemmas.List.{append-nil}
 use Rattle.class_pool.specs.declared.pool.Const.{Const}
 use Rattle.class_pool.specs.declared.refusal.PoolRefusal.{PoolRefusal}
 use Rattle.class_pool.specs.Pool.{Slots}
-use Rattle.class_pool.specs.PoolRefused.{Shows}
+use Rattle.class_pool.specs.PoolRefused.{Shows, ShowsGood}
 use Rattle.byte_read.specs.Reading.{◌>>=◌}
 use Rattle.class_pool.specs.PoolReading.{slot_at, is_first_of_two, slots_at}
-use Rattle.byte_read.proofs.Steps.{bind_then, ok_is}
-use Rattle.class_pool.proofs.Steps.{err_says, err_shows}
+use Rattle.byte_read.proofs.Steps.{bind_then, ok_is, no_failure}
+use Rattle.class_pool.proofs.Steps.{err_says, err_shows, good_why}
 
 -- what was read before, and what is still read
 abbrev pub with_prefix : Slots → Result (Slots × List ℕ) PoolRefusal → Result (Slots × List ℕ) PoolRefusal
@@ -66,3 +66,29 @@ counted_slots second index (suc room) bytes x e =
     bind_then (slot_at second index (suc room) bytes) _ x e (λ a at_a e_b.
     bind_then (slots_at (is_first_of_two a.0) (suc index) room a.1) _ x e_b (λ b at_b e_x.
     ap (λ (x : Slots × List ℕ). length x.0) (sym (ok_is (a.0 ∷ b.0, b.1) x e_x)) ∙ ap suc (counted_slots (is_first_of_two a.0) (suc index) room a.1 b at_b)))
+
+-- ---- the first place
+
+-- where the first place is refused, the loop is at its beginning
+abbrev pub IsBegun : ℕ → List ℕ → Bool → ℕ → List ℕ → Type 0
+IsBegun count bytes second index rest = (why : PoolRefusal) → slot_at false 1 (count - 1) bytes ≡ Err why → (index ≡ 1) × (rest ≡ bytes) × (second ≡ false)
+
+-- so the place that is read is the first one
+first_again : (count : ℕ) (bytes : List ℕ) (second : Bool) (index : ℕ) (rest : List ℕ) (why : PoolRefusal) → IsBegun count bytes second index rest → slot_at false 1 (count - 1) bytes ≡ Err why → slot_at second index (count - index) rest ≡ Err why
+first_again count bytes second index rest why begun e =
+    let is = begun why e in
+    rw (is.0, is.1, is.2) e
+
+-- a place that is read is no refused one
+pub first_read : {C : Type 0} (count : ℕ) (bytes : List ℕ) (second : Bool) (index : ℕ) (rest : List ℕ) (x : Option Const × List ℕ) (why : PoolRefusal) → IsBegun count bytes second index rest → slot_at second index (count - index) rest ≡ Ok x
+    → slot_at false 1 (count - 1) bytes ≡ Err why → C
+first_read count bytes second index rest x why begun read e = absurd (no_failure x why (sym read ∙ first_again count bytes second index rest why begun e))
+
+-- what the first place is refused for is answered
+pub first_fails : (count : ℕ) (bytes : List ℕ) (second : Bool) (index : ℕ) (rest : List ℕ) (why found : PoolRefusal) → IsBegun count bytes second index rest → ShowsGood (λ x. x) (Err found) (slot_at second index (count - index) rest)
+    → slot_at false 1 (count - 1) bytes ≡ Err why → found ≡ why
+first_fails count bytes second index rest why found begun good e = good_why found why (slot_at second index (count - index) rest) good (first_again count bytes second index rest why begun e)
+
+-- the loop does not end before the first place
+pub first_passed : {C : Type 0} (count : ℕ) (bytes : List ℕ) (second : Bool) (index : ℕ) (rest : List ℕ) (why : PoolRefusal) → IsBegun count bytes second index rest → count ≤ index → 1 < count → slot_at false 1 (count - 1) bytes ≡ Err why → C
+first_passed count bytes second index rest why begun le some e = absurd (omega (arith, le, some, (begun why e).0))

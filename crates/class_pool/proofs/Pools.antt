@@ -1,16 +1,18 @@
 -- A pool is read where it is encoded, and bytes are refused for what is wrong first.
-use Rattle.std.proofs.Common.{◌≡◌, ◌⊎◌, ℕ, ◌+◌, ◌-◌, ◌^◌, ◌<◌, ◌≤◌, false, cond, eqb, List, ◌∷◌, ◌++◌, length, drop, Option, Some, None, Result, Ok, Err, refl, sym, ap, subst, ◌∙◌, append_assoc, arith, inl, inr, length-append, length-drop}
+use Rattle.std.proofs.Common.{◌≡◌, ◌⊎◌, ℕ, ◌+◌, ◌-◌, ◌^◌, ◌<◌, ◌≤◌, true, false, cond, eqb, ltb, List, ◌∷◌, ◌++◌, length, drop, Option, Some, None, Result, Ok, Err, refl, sym, ap, subst, ◌∙◌, append_assoc, arith, inl, inr, length-append, length-drop}
 use Rattle.std.specs.Prelude.{IsTrue, IfOk, IfErr}
 use Rattle.std.specs.List.{flat_map}
-use Rattle.std.proofs.lemmas.Bool.{cases_Bool, eqb-true, eqb-false, ne_eqb}
+use Rattle.std.proofs.lemmas.Bool.{cases_Bool, eqb-true, eqb-false, ne_eqb, ltb-true, lt-ltb}
 use Rattle.std.proofs.lemmas.List.{drop_at, drop-drop}
 use Rattle.class_pool.specs.declared.refusal.PoolRefusal.{PoolRefusal}
 use Rattle.class_pool.specs.declared.refusal.PoolRefusal.TheVariants.{Truncated, BadTag, BadIndex, BadUtf8, Memory}
 use Rattle.class_pool.specs.Pool.{Slots, is_linked, FitsEntry, slot_bytes, AreSpaced, EachEntry, pool_bytes, IsPool, IsPoolAt}
-use Rattle.class_pool.specs.PoolRefused.{IsCountRefused, IsEntryRefused, IsRefusedEntry, IsFirstUnlinked, HasNoCount, IsRefused, Gives}
-use Rattle.class_pool.specs.PoolReading.{u2_at, count_at, slots_at, first_unlinked, checked, pool_at, pool_from}
-use Rattle.byte_read.proofs.Steps.{roomy, u2, IsBytes, IsBytes-drop, bind_then, bind_fails, ok_is, same_why, no_failure, then_ok, then_err, Takes, joined, u2_takes, number_fails, number_short, u2_again}
+use Rattle.class_pool.specs.PoolRefused.{IsCountRefused, IsFirstRefused, IsRefusedAtOnce, IsEntryRefused, IsRefusedEntry, IsFirstUnlinked, HasNoCount, IsRefused, Gives}
+use Rattle.class_pool.specs.PoolReading.{u2_at, count_at, start_at, slot_at, slots_at, first_unlinked, checked, pool_at, pool_from}
+use Rattle.byte_read.proofs.Steps.{roomy, u2, IsBytes, IsBytes-drop, bind_then, bind_fails, bind_fails_then, chosen, ok_is, same_why, no_failure, then_ok, then_err, Takes, joined, u2_takes, number_fails, number_short, u2_again}
 use Rattle.class_pool.proofs.Steps.{err_says}
+use Rattle.byte_read.specs.Reading.{◌>>=◌}
+use Rattle.class_pool.proofs.Entries.{entry_refused}
 use Rattle.class_pool.proofs.Linked.{Found, none_says, none_again, some_says, some_again}
 use Rattle.class_pool.proofs.SlotLists.{HasSecond, slots_again, slots_refused, slots_taken, FailsSlots, slots_fail}
 
@@ -283,7 +285,7 @@ pub is_answered : (bytes : List ℕ) (at : ℕ) (result : Result (Slots × ℕ) 
 is_answered bytes at result e why r = subst (Gives result) (from_refused bytes at why r) e
 
 -- a count that is refused is refused by reading it
-pub is_at_once : (bytes : List ℕ) (why : PoolRefusal) → IsCountRefused bytes why → count_at bytes ≡ Err why
+is_at_once : (bytes : List ℕ) (why : PoolRefusal) → IsCountRefused bytes why → count_at bytes ≡ Err why
 unfolding count_at
 is_at_once bytes Truncated short = then_err _ (number_short Truncated 2 bytes short)
 is_at_once bytes (BadIndex index) (is, none) =
@@ -291,6 +293,34 @@ is_at_once bytes (BadIndex index) (is, none) =
 is_at_once bytes (BadTag index) r = absurd r
 is_at_once bytes (BadUtf8 index) r = absurd r
 is_at_once bytes Memory r = absurd r
+
+-- what the first entry is refused for
+first_at_once : (bytes : List ℕ) (why : PoolRefusal) → IsFirstRefused bytes why → start_at bytes ≡ Err why
+unfolding start_at count_at slot_at
+first_at_once bytes why r =
+    let some : eqb r.count 0 ≡ false = ne_eqb r.count 0 (λ e. omega (arith, r.some, e)) in
+    let more : ltb 1 r.count ≡ true = lt-ltb 1 r.count r.some in
+    let count : count_at bytes ≡ Ok (r.count, r.rest) = ap count_at r.encoded ∙ then_ok _ _ (u2_again Truncated r.count r.rest r.count_fits) (rw some refl) in
+    let entry = entry_refused 1 (r.count - 1) r.rest why (omega (arith, r.some)) r.refused in
+    then_ok _ _ count (rw more (then_err _ (then_err _ entry)))
+
+pub is_started : (bytes : List ℕ) (why : PoolRefusal) → IsRefusedAtOnce bytes why → start_at bytes ≡ Err why
+unfolding start_at
+is_started bytes why (inl count) = then_err _ (is_at_once bytes why count)
+is_started bytes why (inr first) = first_at_once bytes why first
+
+-- a refusal of the start is that of the count, or of the first place
+pub start_count : (bytes : List ℕ) (found why : PoolRefusal) → count_at bytes ≡ Err found → start_at bytes ≡ Err why → found ≡ why
+unfolding start_at
+start_count bytes found why count e = same_why {A = Unit {0}} found why (sym (then_err _ count) ∙ e)
+
+pub start_first : (bytes : List ℕ) (count : ℕ × List ℕ) (why : PoolRefusal) → count_at bytes ≡ Ok count → start_at bytes ≡ Err why → (1 < count.0) × (slot_at false 1 (count.0 - 1) count.1 ≡ Err why)
+unfolding start_at
+start_first bytes count why read e =
+    let tested = sym (then_ok (λ n. cond (ltb 1 n.0) (slot_at false 1 (n.0 - 1) n.1 >>= λ slot. Ok tt) (Ok tt)) _ read refl) ∙ e in
+    chosen (ltb 1 count.0) _ _ (Err why) tested
+    (λ some is. bind_fails_then (slot_at false 1 (count.0 - 1) count.1) (λ slot. Ok tt) why is (λ at_why. (ltb-true _ _ some, at_why)) (λ slot at_slot fails. absurd (no_failure tt why fails)))
+    (λ none is. absurd (no_failure tt why is))
 
 -- a count that is read is not 0
 pub count_read : (bytes : List ℕ) (x : ℕ × List ℕ) → count_at bytes ≡ Ok x → u2_at bytes ≡ Ok x

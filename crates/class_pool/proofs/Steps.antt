@@ -1,6 +1,7 @@
 -- What a reading function answered, against what reading gives.
 use Rattle.std.proofs.Common.{◌≡◌, ◌⊎◌, Result, Err, refl, sym, ap, subst, ◌∙◌, inl, inr}
-use Rattle.byte_read.proofs.Steps.{failed}
+use Rattle.std.specs.Prelude.{IsOk}
+use Rattle.byte_read.proofs.Steps.{failed, same_why, true_false}
 use Rattle.class_pool.specs.declared.refusal.PoolRefusal.{PoolRefusal}
 use Rattle.class_pool.specs.declared.refusal.PoolRefusal.TheVariants.{Truncated, BadTag, BadIndex, BadUtf8, Memory}
 use Rattle.class_pool.specs.PoolRefused.{Shows, ShowsGood}
@@ -20,6 +21,14 @@ good_shows Truncated read e = e
 good_shows (BadTag index) read e = e
 good_shows (BadIndex index) read e = e
 good_shows (BadUtf8 index) read e = e
+
+-- where reading refuses, the same is answered
+pub good_why : {Y : Type 0} (found why : PoolRefusal) (read : Result Y PoolRefusal) → ShowsGood (λ x. x) (Err found) read → read ≡ Err why → found ≡ why
+good_why Memory why read good e = absurd (true_false (sym (subst IsOk e good)))
+good_why {Y} Truncated why read good e = same_why {A = Y} Truncated why (sym good ∙ e)
+good_why {Y} (BadTag index) why read good e = same_why {A = Y} (BadTag index) why (sym good ∙ e)
+good_why {Y} (BadIndex index) why read good e = same_why {A = Y} (BadIndex index) why (sym good ∙ e)
+good_why {Y} (BadUtf8 index) why read good e = same_why {A = Y} (BadUtf8 index) why (sym good ∙ e)
 
 -- bytes that are missed are no want of memory
 pub missed_shows : {Y : Type 0} (why : PoolRefusal) (read : Result Y PoolRefusal) → why ≡ Truncated → read ≡ Err why → ShowsGood (λ x. x) (Err why) read

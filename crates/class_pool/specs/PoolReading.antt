@@ -198,6 +198,12 @@ count_at bytes = do
   count ← u2_at bytes
   if count.0 == 0 then Err (BadIndex 0) else Ok count
 
+-- the count and, where it is above 1, the first place: what is read before any memory is asked for
+unfoldable pub start_at : List ℕ → Result (Unit {0}) PoolRefusal
+start_at bytes = do
+  count ← count_at bytes
+  if nat_lt 1 count.0 then (slot_at false 1 (count.0 - 1) count.1 >>= λ slot. Ok tt) else Ok tt
+
 abbrev pub checked : Slots × List ℕ → Option ℕ → Result (Slots × List ℕ) PoolRefusal
 checked slots None = Ok slots
 checked slots (Some index) = Err (BadIndex index)

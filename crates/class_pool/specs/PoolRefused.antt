@@ -79,13 +79,26 @@ pub record IsFirstUnlinked (bytes : List ℕ) (index : ℕ) : Type 0 where
 abbrev pub HasNoCount : List ℕ → Type 0
 HasNoCount bytes = (rest : List ℕ) × (bytes ≡ big_bytes 2 0 ++ rest)
 
--- the count is refused so, before any memory is asked for: it is cut off, or it is 0
+-- the count is refused so: it is cut off, or it is 0
 abbrev pub IsCountRefused : List ℕ → PoolRefusal → Type 0
 IsCountRefused bytes Truncated = length bytes < 2
 IsCountRefused bytes (BadIndex index) = (index ≡ 0) × HasNoCount bytes
 IsCountRefused bytes (BadTag index) = ⊥
 IsCountRefused bytes (BadUtf8 index) = ⊥
 IsCountRefused bytes Memory = ⊥
+
+-- after a count above 1 the first entry is refused so
+pub record IsFirstRefused (bytes : List ℕ) (why : PoolRefusal) : Type 0 where
+  pub count : ℕ
+  pub rest : List ℕ
+  pub count_fits : count < 2 ^ 16
+  pub some : 1 < count
+  pub encoded : bytes ≡ big_bytes 2 count ++ rest
+  pub refused : IsEntryRefused 1 (count - 1) rest why
+
+-- the count or the first entry is refused so, before any memory is asked for
+abbrev pub IsRefusedAtOnce : List ℕ → PoolRefusal → Type 0
+IsRefusedAtOnce bytes why = IsCountRefused bytes why ⊎ IsFirstRefused bytes why
 
 -- the bytes are refused as a pool so
 abbrev pub IsRefused : List ℕ → PoolRefusal → Type 0

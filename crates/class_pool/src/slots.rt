@@ -1,12 +1,12 @@
 //! The constant pool as a whole (JVMS 4.1, 4.4): its count, its places, and what its entries name.
 
-ghost use Rattle.std.specs.Prelude.{◌≡◌, ◌⊎◌, ◌≤◌, ◌-◌, ℕ, false, Ok, Err, List, Option, IfOk, IfErr, length, drop};
+ghost use Rattle.std.specs.Prelude.{◌≡◌, ◌⊎◌, ◌<◌, ◌≤◌, ◌-◌, ℕ, false, Ok, Err, List, Option, IfOk, IfErr, length, drop};
 ghost use Rattle.class_pool.specs.declared.refusal.PoolRefusal.{PoolRefusal as Refusal};
 ghost use Rattle.class_pool.specs.declared.refusal.PoolRefusal.TheVariants.{Memory};
 ghost use Rattle.byte_read.specs.Reading.{Answers};
 ghost use Rattle.class_pool.specs.Pool.{Slots, is_linked, is_wide, IsPoolAt};
-ghost use Rattle.class_pool.specs.PoolRefused.{IsRefused, IsCountRefused, Shows, ShowsGood, Gives};
-ghost use Rattle.class_pool.specs.PoolReading.{count_at, slot_at, is_first_of_two, slots_at, is_slot_linked, first_unlinked, pool_at, pool_from};
+ghost use Rattle.class_pool.specs.PoolRefused.{IsRefused, IsRefusedAtOnce, Shows, ShowsGood, Gives};
+ghost use Rattle.class_pool.specs.PoolReading.{count_at, start_at, slot_at, is_first_of_two, slots_at, is_slot_linked, first_unlinked, pool_at, pool_from};
 
 use crate::entry::entry_at;
 use crate::pool::{Const, Pool};
@@ -56,7 +56,8 @@ fn slots_at(
     bytes: &[u8],
 ) -> Result<(Vec<Option<Const>>, &[u8]), PoolRefusal>
     requires { 1 ≤ count }
-    ensures { Shows (λ x. (x.0.items, x.1.now)) result (slots_at false 1 (count - 1) bytes.now) }
+    ensures value { Shows (λ x. (x.0.items, x.1.now)) result (slots_at false 1 (count - 1) bytes.now) }
+    ensures first { (why : Refusal) → 1 < count → slot_at false 1 (count - 1) bytes.now ≡ Err why → result ≡ Err why }
 {
     let mut slots = Vec::new(alloc);
     let mut rest = bytes;
@@ -134,7 +135,7 @@ fn count_at(bytes: &[u8]) -> Result<(u16, &[u8]), PoolRefusal>
 #[tactic(auto, unfolding(crate::specs::PoolReading::pool_at, crate::specs::PoolReading::count_at))]
 fn pool_at(alloc: Global, bytes: &[u8]) -> Result<(Pool, &[u8]), PoolRefusal>
     ensures value { Shows (λ x. (x.0, x.1.now)) result (pool_at bytes.now) }
-    ensures count { (why : Refusal) → count_at bytes.now ≡ Err why → result ≡ Err why }
+    ensures start { (why : Refusal) → start_at bytes.now ≡ Err why → result ≡ Err why }
 {
     let (count, rest) = count_at(bytes)?;
     let (slots, rest) = slots_at(alloc, count, rest)?;
@@ -150,7 +151,7 @@ fn pool_at(alloc: Global, bytes: &[u8]) -> Result<(Pool, &[u8]), PoolRefusal>
 fn pool_from(alloc: Global, bytes: &[u8], at: usize) -> Result<(Pool, usize), PoolRefusal>
     requires { at ≤ length bytes.now }
     ensures value { Gives result (pool_from bytes.now at) }
-    ensures count { (why : Refusal) → count_at (drop at bytes.now) ≡ Err why → result ≡ Err why }
+    ensures start { (why : Refusal) → start_at (drop at bytes.now) ≡ Err why → result ≡ Err why }
 {
     let (pool, rest) = pool_at(alloc, &bytes[at..])?;
     Ok((pool, bytes.len() - rest.len()))
@@ -172,8 +173,8 @@ pub fn read_pool(alloc: Global, bytes: &[u8], at: usize) -> Result<(Pool, usize)
     ensures refused { IfErr result (λ why. (why ≡ Memory) ⊎ IsRefused (drop at bytes.now) why) }
     ensures refused_only { (why : Refusal) → IsRefused (drop at bytes.now) why → Gives result (Err why) }
 
-    // A count that is cut off or 0 is the refusal at once.
-    ensures at_once { (why : Refusal) → IsCountRefused (drop at bytes.now) why → result ≡ Err why }
+    // What the count and the first entry are refused for is the refusal at once.
+    ensures at_once { (why : Refusal) → IsRefusedAtOnce (drop at bytes.now) why → result ≡ Err why }
 
     // Which pool it is, or which refusal.
     ensures exact { Gives result (pool_from bytes.now at) }

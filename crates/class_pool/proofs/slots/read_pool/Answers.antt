@@ -1,5 +1,5 @@
 use Rattle.std.proofs.Common.{drop, arith}
-use Rattle.class_pool.proofs.Pools.{is_at_once, is_found, is_read, is_refused, is_answered}
+use Rattle.class_pool.proofs.Pools.{is_started, is_found, is_read, is_refused, is_answered}
 use Rattle.class_pool.proofs.slots.read_pool.Goals as goal
 
 pub returns-clause-found : goal.returns-clause-found
@@ -15,4 +15,4 @@ pub returns-clause-refused_only : goal.returns-clause-refused_only
 returns-clause-refused_only c = is_answered c.args.bytes.now c.args.at c.pool_from.result c.pool_from.ensures.value
 
 pub returns-clause-at_once : goal.returns-clause-at_once
-returns-clause-at_once c = λ why r. c.pool_from.ensures.count why (is_at_once (drop c.args.at c.args.bytes.now) why r)
+returns-clause-at_once c = λ why r. c.pool_from.ensures.start why (is_started (drop c.args.at c.args.bytes.now) why r)
