@@ -7,7 +7,7 @@ ghost use Rattle.class_pool.specs.DescriptorReading.{Reads, Answers, class_at, b
 
 use crate::descriptor::{Base, DescriptorRefusal, Kind};
 use crate::pool::Text;
-use crate::scan::{brackets, is_field_text, name_size, plain_base};
+use crate::scan::{MOST_DIMS, brackets, is_field_text, name_size, plain_base};
 use item_list::Items;
 use std::alloc::Global;
 
@@ -76,7 +76,7 @@ pub(crate) fn kind_at(alloc: Global, text: &[u8]) -> Result<(Kind, &[u8]), Descr
     ensures { Reads (λ x. (x.0, x.1.now)) result (kind_at text.now) }
 {
     let dims = brackets(text);
-    if dims > 255 {
+    if dims > MOST_DIMS {
         return Err(DescriptorRefusal::BadDescriptor);
     }
     let (base, rest) = base_at(alloc, &text[dims..])?;

@@ -6,6 +6,9 @@ ghost use Rattle.class_pool.specs.DescriptorReading.{suffix_of, after_byte, name
 
 use crate::descriptor::Base;
 
+/// How many dimensions a type may have (JVMS 4.3.2).
+pub(crate) const MOST_DIMS: usize = 255;
+
 /// Whether a part of a class name begins after this byte, where the name goes on with it.
 fn after_byte(begins: bool, byte: u8) -> Option<bool>
     ensures { result ≡ after_byte begins byte }
@@ -97,7 +100,7 @@ fn skip_kind(text: &[u8]) -> Option<&[u8]>
     ensures { option_copied result ≡ suffix_of (kind_at text.now) }
 {
     let dims = brackets(text);
-    if dims > 255 {
+    if dims > MOST_DIMS {
         return None;
     }
     skip_base(&text[dims..])

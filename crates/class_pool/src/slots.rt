@@ -14,6 +14,11 @@ use crate::refusal::PoolRefusal;
 use byte_read::u2_at;
 use std::alloc::Global;
 
+/// The first and the last kind of a method handle (JVMS table 5.4.3.5-A).
+const REF_GET_FIELD: u8 = 1;
+
+const REF_INVOKE_INTERFACE: u8 = 9;
+
 /// The entry takes two places (JVMS 4.4.5).
 fn is_wide(entry: &Const) -> bool
     ensures { result ≡ is_wide entry.now }
@@ -87,7 +92,7 @@ fn is_linked(pool: &Pool, entry: &Const) -> bool
         }
         Const::NameAndType(name, descriptor) => pool.is_utf8(*name) && pool.is_utf8(*descriptor),
         Const::MethodHandle(kind, index) => {
-            *kind >= 1 && *kind <= 9 && pool.get(*index).is_some()
+            *kind >= REF_GET_FIELD && *kind <= REF_INVOKE_INTERFACE && pool.get(*index).is_some()
         }
         Const::MethodType(descriptor) => pool.is_utf8(*descriptor),
         Const::InvokeDynamic(_, name_and_type) => pool.is_name_and_type(*name_and_type),

@@ -3,6 +3,34 @@
 ghost use Rattle.std.specs.Prelude.{◌≡◌};
 ghost use Rattle.class_pool.specs.PoolReading.{tag_of_byte, tag_width, parts_size};
 
+const CONSTANT_UTF8: u8 = 1;
+
+const CONSTANT_INTEGER: u8 = 3;
+
+const CONSTANT_FLOAT: u8 = 4;
+
+const CONSTANT_LONG: u8 = 5;
+
+const CONSTANT_DOUBLE: u8 = 6;
+
+const CONSTANT_CLASS: u8 = 7;
+
+const CONSTANT_STRING: u8 = 8;
+
+const CONSTANT_FIELDREF: u8 = 9;
+
+const CONSTANT_METHODREF: u8 = 10;
+
+const CONSTANT_INTERFACE_METHODREF: u8 = 11;
+
+const CONSTANT_NAME_AND_TYPE: u8 = 12;
+
+const CONSTANT_METHOD_HANDLE: u8 = 15;
+
+const CONSTANT_METHOD_TYPE: u8 = 16;
+
+const CONSTANT_INVOKE_DYNAMIC: u8 = 18;
+
 /// The kind of an entry, as its first byte tells it.
 #[derive(Clone, Copy)]
 pub(crate) enum Tag {
@@ -28,20 +56,20 @@ impl Tag {
         ensures { result ≡ tag_of_byte byte }
     {
         match byte {
-            1 => Some(Tag::Utf8),
-            3 => Some(Tag::Integer),
-            4 => Some(Tag::Float),
-            5 => Some(Tag::Long),
-            6 => Some(Tag::Double),
-            7 => Some(Tag::Class),
-            8 => Some(Tag::String),
-            9 => Some(Tag::Fieldref),
-            10 => Some(Tag::Methodref),
-            11 => Some(Tag::InterfaceMethodref),
-            12 => Some(Tag::NameAndType),
-            15 => Some(Tag::MethodHandle),
-            16 => Some(Tag::MethodType),
-            18 => Some(Tag::InvokeDynamic),
+            CONSTANT_UTF8 => Some(Tag::Utf8),
+            CONSTANT_INTEGER => Some(Tag::Integer),
+            CONSTANT_FLOAT => Some(Tag::Float),
+            CONSTANT_LONG => Some(Tag::Long),
+            CONSTANT_DOUBLE => Some(Tag::Double),
+            CONSTANT_CLASS => Some(Tag::Class),
+            CONSTANT_STRING => Some(Tag::String),
+            CONSTANT_FIELDREF => Some(Tag::Fieldref),
+            CONSTANT_METHODREF => Some(Tag::Methodref),
+            CONSTANT_INTERFACE_METHODREF => Some(Tag::InterfaceMethodref),
+            CONSTANT_NAME_AND_TYPE => Some(Tag::NameAndType),
+            CONSTANT_METHOD_HANDLE => Some(Tag::MethodHandle),
+            CONSTANT_METHOD_TYPE => Some(Tag::MethodType),
+            CONSTANT_INVOKE_DYNAMIC => Some(Tag::InvokeDynamic),
             _ => None,
         }
     }
