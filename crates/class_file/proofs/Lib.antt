@@ -8,6 +8,7 @@ pub mod Attributes
 pub mod Codes
 pub mod MemberAttributes
 pub mod Distinct
+pub mod Told
 pub mod SameTexts
 pub mod Heads
 pub mod Members

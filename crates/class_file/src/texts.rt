@@ -1,7 +1,7 @@
 //! What the texts of a constant pool are, found once: which of them are the same, and what each is as
 //! a descriptor (JVMS 4.3). So however many members name a text, it is compared and parsed once.
 
-ghost use Rattle.std.specs.Prelude.{◌≡◌, Ok, IfOk, IfErr, min, sum_by, is_some, unwrap_or, option_map};
+ghost use Rattle.std.specs.Prelude.{◌≡◌, false, None, Ok, IfOk, IfErr, min, sum_by, is_some, unwrap_or, option_map};
 ghost use Rattle.class_pool.specs.DescriptorReading.{field_of, method_of};
 ghost use Rattle.class_file.specs.declared.refusal.ReadRefusal.TheVariants.{Memory};
 ghost use Rattle.class_file.specs.Rules.{slots_of};
@@ -81,7 +81,8 @@ fn unless_memory<T: Copy>(none: T, why: DescriptorRefusal) -> Result<T, ReadRefu
 
 /// The text is a field's descriptor.
 fn is_field(alloc: Global, text: &[u8]) -> Result<bool, ReadRefusal>
-    ensures { Gives (λ x. x) result (Ok (is_some (field_of text.now))) }
+    ensures value { Gives (λ x. x) result (Ok (is_some (field_of text.now))) }
+    ensures none { field_of text.now ≡ None → result ≡ Ok false }
 {
     match read_field_descriptor(alloc, text) {
         Ok(_) => Ok(true),
@@ -91,7 +92,8 @@ fn is_field(alloc: Global, text: &[u8]) -> Result<bool, ReadRefusal>
 
 /// What the text is as a method's descriptor.
 fn method_shape(alloc: Global, text: &[u8]) -> Result<Option<MethodShape>, ReadRefusal>
-    ensures { Gives (λ x. x) result (Ok (option_map shape_of (method_of text.now))) }
+    ensures value { Gives (λ x. x) result (Ok (option_map shape_of (method_of text.now))) }
+    ensures none { method_of text.now ≡ None → result ≡ Ok None }
 {
     match read_descriptor(alloc, text) {
         Ok(descriptor) => Ok(Some(shape_of(&descriptor))),
