@@ -15,11 +15,14 @@ use class_pool::Pool;
 use item_list::Items;
 use std::alloc::Global;
 
+/// How many bytes code may have (JVMS 4.7.3).
+const MOST_CODE: u32 = 65_535;
+
 /// Code has 1 to 65,535 bytes.
 fn is_code_size(size: u32) -> bool
     ensures { result ≡ is_code_size size }
 {
-    0 < size && size < 65_536
+    0 < size && size <= MOST_CODE
 }
 
 /// The index is 0, for any class, or that of a class.

@@ -3,13 +3,13 @@
 ghost use Rattle.std.specs.Prelude.{◌≡◌};
 ghost use Rattle.class_file.specs.Rules.{is_public, is_private, is_protected, is_static, is_final, is_native, is_interface, is_abstract, are_class_flags, has_one_access, fits_interface_field};
 
-const ACC_PUBLIC: u16 = 0x0001;
+pub(crate) const ACC_PUBLIC: u16 = 0x0001;
 
 const ACC_PRIVATE: u16 = 0x0002;
 
 const ACC_PROTECTED: u16 = 0x0004;
 
-const ACC_STATIC: u16 = 0x0008;
+pub(crate) const ACC_STATIC: u16 = 0x0008;
 
 const ACC_FINAL: u16 = 0x0010;
 

@@ -6,6 +6,7 @@ ghost use Rattle.class_pool.specs.Pool.{utf8_at, class_name_at};
 ghost use Rattle.class_file.specs.Rules.{is_named};
 ghost use Rattle.class_file.specs.OneMain.{HasOneMainRecord, is_reserved, has_plain_code, is_main_named, is_main, has_only_main, has_own_name, is_plain_class, is_one_main};
 
+use crate::flags::{ACC_PUBLIC, ACC_STATIC};
 use crate::record::{ClassFile, CodeAttr, Member};
 use class_pool::Pool;
 
@@ -47,7 +48,7 @@ fn is_main_named(pool: &Pool, method: &Member) -> bool
 fn is_main(pool: &Pool, method: &Member) -> bool
     ensures { result ≡ is_main pool.now method.now }
 {
-    method.flags == 9
+    method.flags == ACC_PUBLIC | ACC_STATIC
         && is_main_named(pool, method)
         && method.constant.is_none()
         && has_plain_code(&method.code)

@@ -26,6 +26,14 @@ use class_pool::{Pool, PoolRefusal, read_pool};
 use item_list::Items;
 use std::alloc::Global;
 
+/// What a class file begins with (JVMS 4.1).
+const MAGIC: &[u8] = b"\xca\xfe\xba\xbe";
+
+/// The first and the last major version that is read: JDK 1.1 to Java 8.
+const FIRST_MAJOR: u16 = 45;
+
+const LAST_MAJOR: u16 = 52;
+
 /// How many bytes a class file may have.
 const LARGEST: usize = 1_048_576;
 
@@ -33,7 +41,7 @@ const LARGEST: usize = 1_048_576;
 fn capped(length: usize) -> u32
     ensures { result ≡ capped length }
 {
-    length.min(0xffff_ffff) as u32
+    length.min(u32::MAX as usize) as u32
 }
 
 /// The version, minor and major: 45 to 52.
@@ -43,7 +51,7 @@ fn version_at(bytes: &[u8]) -> Result<((u16, u16), &[u8]), ReadRefusal>
 {
     let (minor, rest) = u2_at(bytes)?;
     let (major, rest) = u2_at(rest)?;
-    if major < 45 || major > 52 {
+    if major < FIRST_MAJOR || major > LAST_MAJOR {
         return Err(ReadRefusal::Version { major });
     }
     Ok(((minor, major), rest))
@@ -212,7 +220,7 @@ fn body_of(alloc: Global, bytes: &[u8]) -> Result<ClassFile, ReadRefusal>
 fn has_magic(bytes: &[u8]) -> bool
     ensures { result ≡ bytes_eq (take 4 bytes.now) magic }
 {
-    bytes.starts_with(b"\xca\xfe\xba\xbe")
+    bytes.starts_with(MAGIC)
 }
 
 /// The record, or the first fault.
@@ -229,7 +237,7 @@ fn class_of(alloc: Global, bytes: &[u8]) -> Result<ClassFile, ReadRefusal>
     if !has_magic(bytes) {
         return Err(ReadRefusal::NotClass);
     }
-    body_of(alloc, &bytes[4..])
+    body_of(alloc, &bytes[MAGIC.len()..])
 }
 
 /// Reads the bytes of a class file (JVMS chapter 4) of version 45 to 52. All bytes belong to the file.

@@ -16,6 +16,9 @@ use crate::names::{is_special_name, is_text};
 use crate::texts::MethodShape;
 use class_pool::Pool;
 
+/// How many argument places a method may take, `this` among them (JVMS 4.3.3).
+const MOST_ARGUMENT_SLOTS: u16 = 255;
+
 /// The flags of a field go together.
 pub(crate) fn is_field_head(class_flags: u16, head: Head) -> bool
     ensures { result ≡ is_field_head class_flags head }
@@ -88,9 +91,9 @@ fn fits_slots(pool: &Pool, head: Head, shape: MethodShape) -> bool
     ensures { (type : Record) → shape ≡ shape_of type → result ≡ fits_slots pool.now head type }
 {
     let most = if is_static_method(pool, head) {
-        255
+        MOST_ARGUMENT_SLOTS
     } else {
-        254
+        MOST_ARGUMENT_SLOTS - 1
     };
     shape.slots <= most
 }
