@@ -1,15 +1,13 @@
 -- Fronts of bytes: what reading says of a prefix, and what it says of the whole.
 use Rattle.std.proofs.Common.{◌≡◌, ◌⊎◌, ℕ, ◌<◌, ◌≤◌, Bool, true, false, cond, eqb, List, ◌++◌, length, take, drop, Result, Ok, Err, refl, sym, ap, subst, ◌∙◌, append_assoc, arith, inl, inr, length-append, length-take, length-drop}
-use Rattle.std.proofs.lemmas.Bool.{cases_lt, lt-ltb, le-ltb, ne_eqb}
+use Rattle.std.proofs.lemmas.Bool.{cases_lt, ne_eqb}
 use Rattle.std.proofs.lemmas.List.{take-append-le, take-append-drop, take_at, drop-append-le}
-use Rattle.byteorder.specs.Endian.{big_number}
 use Rattle.byte_read.proofs.Steady.{Persists}
 use Rattle.class_file.specs.declared.record.ClassFile.{ClassFile}
 use Rattle.class_file.specs.declared.refusal.ReadRefusal.{ReadRefusal}
 use Rattle.class_file.specs.declared.refusal.ReadRefusal.TheVariants.{NotClass, Version, Truncated, TrailingBytes, BadPool, BadShape, BadDescriptor, TooLarge, Memory}
 use Rattle.class_file.specs.Layout.{u2, magic}
 use Rattle.class_file.specs.Relation.{largest, IsClassFile}
-use Rattle.class_file.specs.Reading.{u2_at}
 use Rattle.class_file.specs.ReadingClass.{capped, version_at, body_of, class_of}
 use Rattle.class_file.specs.Refused.{HasOtherVersion, IsRefused}
 use Rattle.class_file.specs.Prefixes.{IsFault}

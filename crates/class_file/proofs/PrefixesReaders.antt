@@ -1,5 +1,5 @@
 -- Each part of a class file is read by the prefix: what is read, and a fault, stand whatever follows.
-use Rattle.std.proofs.Common.{◌≡◌, ℕ, zero, suc, ◌-◌, ◌≤◌, Bool, ◌&&◌, ◌||◌, not, eqb, leb, List, [], ◌∷◌, ◌++◌, length, Option, Some, None, Result, Ok, Err, refl, sym, ap, arith, inl, inr, length-append}
+use Rattle.std.proofs.Common.{◌≡◌, ℕ, ◌-◌, ◌≤◌, Bool, ◌&&◌, ◌||◌, not, eqb, leb, List, [], ◌++◌, length, Option, Some, None, Result, Ok, Err, refl, sym, ap, arith, inl, inr, length-append}
 use Rattle.std.specs.Prelude.{is_some, codes}
 use Rattle.std.proofs.lemmas.List.{drop-append-le}
 use Rattle.byteorder.specs.Endian.{big_number}
@@ -13,8 +13,8 @@ use Rattle.class_file.specs.declared.refusal.ReadRefusal.{ReadRefusal}
 use Rattle.class_file.specs.declared.refusal.ReadRefusal.TheVariants.{Version, Truncated, BadShape}
 use Rattle.class_file.specs.declared.record.Member.{Member}
 use Rattle.class_file.specs.Rules.{is_abstract, is_named, are_class_flags, names_class}
-use Rattle.byte_read.specs.Reading.{◌>>=◌, steps_at}
-use Rattle.class_file.specs.Reading.{u2_at, u4_at, slice_at, counted_at, list_at}
+use Rattle.byte_read.specs.Reading.{◌>>=◌}
+use Rattle.class_file.specs.Reading.{counted_at, list_at}
 use Rattle.class_file.specs.ReadingMembers.{text_at, info_at, skip_at, skipped, skip_all_at, code_parts, as_shape, code_at, value_at, field_attribute_at, method_attribute_at, field_attributes_at, method_attributes_at, head_at, field_type, method_type, is_declared, is_field_head, is_method_head, field_head_at, method_head_at, field_at, method_at, fields_at, methods_at}
 use Rattle.class_file.specs.ReadingClass.{version_at, of_pool, after_pool, pool_at, class_flags_at, class_index_at, interfaces_at, class_head_at, members_at}
 use Rattle.byte_read.proofs.Steps.{under}
