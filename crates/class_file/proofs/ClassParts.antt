@@ -19,6 +19,7 @@ use Rattle.class_file.specs.declared.refusal.ReadRefusal.TheVariants.{Version, B
 use Rattle.class_file.specs.Layout.{u2, counted, Attribute, attribute_bytes, MemberLayout, member_bytes, member_of}
 use Rattle.class_file.specs.Relation.{FitsU2}
 use Rattle.class_file.specs.Rules.{are_class_flags, names_class}
+use Rattle.class_file.specs.Faults.{IsClassHead, class_head_bytes}
 use Rattle.byte_read.specs.Reading.{◌>>=◌}
 use Rattle.class_file.specs.Reading.{u2_at}
 use Rattle.class_file.specs.ReadingClass.{version_at, of_pool, after_pool, pool_at, class_flags_at, class_index_at, interfaces_at, class_head_at, members_at}
@@ -146,7 +147,7 @@ pool_fails : (bytes : List ℕ) (why : ReadRefusal) → IsBytes bytes → pool_a
 unfolding pool_at
 pool_fails bytes why fits e = after_fails bytes (pool_from bytes 0) why (λ d at_d. from_fails bytes 0 d fits at_d) e
 
-pool_reads : Reads pool_at pool_bytes itself IsPool
+pub pool_reads : Reads pool_at pool_bytes itself IsPool
 pool_reads = record { taken = pool_taken; again = pool_again; fails = pool_fails }
 
 -- ---- from the flags to the interfaces
@@ -175,21 +176,7 @@ interfaces_read pool =
 abbrev pub a_class_head : ℕ → ℕ → ℕ → List ℕ → ClassHead
 a_class_head flags this_class super_class interfaces = record { flags = flags; this_class = this_class; super_class = super_class; interfaces = interfaces }
 
-abbrev pub class_head_bytes : ClassHead → List ℕ
-class_head_bytes head = u2 head.flags ++ (u2 head.this_class ++ (u2 head.super_class ++ counted u2 head.interfaces))
-
-pub record IsClassHead (pool : Slots) (head : ClassHead) : Type 0 where
-  pub flags : FitsU2 head.flags
-  pub flags_are : IsTrue (are_class_flags head.flags)
-  pub this_class : FitsU2 head.this_class
-  pub this_is : IsTrue (names_class pool head.this_class)
-  pub super_class : FitsU2 head.super_class
-  pub super_is : IsTrue (names_class pool head.super_class)
-  pub interface_count : FitsU2 (length head.interfaces)
-  pub interfaces : AllByRecursion FitsU2 head.interfaces
-  pub interfaces_are : AllByRecursion (λ index. IsTrue (names_class pool index)) head.interfaces
-
-class_head_reads : (pool : Slots) → Reads (class_head_at pool) class_head_bytes itself (IsClassHead pool)
+pub class_head_reads : (pool : Slots) → Reads (class_head_at pool) class_head_bytes itself (IsClassHead pool)
 unfolding class_head_at
 class_head_reads pool =
     reshaped (first flags_read (λ flags. first (index_reads pool) (λ this_class. first (index_reads pool) (λ super_class. last (interfaces_read pool) (λ interfaces. a_class_head flags this_class super_class interfaces)))))

@@ -17,6 +17,9 @@ pub mod Body
 pub mod PrefixesReaders
 pub mod Whole
 pub mod Prefixes
+pub mod Raises
+pub mod PlainParts
+pub mod FaultsSay
 pub mod MainForm
 pub mod Answers
 pub mod AtOnce

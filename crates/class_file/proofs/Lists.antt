@@ -1,8 +1,8 @@
 -- Readers of lists: so many steps, where a step may look at what was read before it.
-use Rattle.std.proofs.Common.{◌≡◌, ℕ, zero, suc, List, [], ◌∷◌, ◌++◌, length, map, Result, Ok, Err, refl, sym, ap, subst, ◌∙◌, append_assoc}
+use Rattle.std.proofs.Common.{◌≡◌, ℕ, zero, suc, ◌<◌, List, [], ◌∷◌, ◌++◌, length, map, Result, Ok, Err, refl, sym, ap, subst, ◌∙◌, append_assoc, arith}
 use Rattle.std.specs.List.{flat_map, AllByRecursion}
 use Rattle.std.proofs.lemmas.List.{append-nil}
-use Rattle.byte_read.proofs.Steps.{IsBytes, joined, bind_then, bind_fails_then, ok_is, no_failure, then_ok}
+use Rattle.byte_read.proofs.Steps.{IsBytes, joined, bind_then, bind_fails_then, ok_is, no_failure, then_ok, then_err}
 use Rattle.class_file.specs.declared.refusal.ReadRefusal.{ReadRefusal}
 use Rattle.class_file.specs.Layout.{u2, counted}
 use Rattle.class_file.specs.Relation.{FitsU2}
@@ -70,6 +70,44 @@ module _ {S L : Type 0} {step : S → List ℕ → Result (S × List ℕ) ReadRe
       (λ p good. (ap (λ (n : ℕ). u2 n ++ flat_map text p.1) (sym good.1.0), refl, (subst FitsU2 (sym good.1.0) good.0, good.1.1)))
       (λ parts. (length parts, parts))
       (λ parts good. (refl, refl, (good.0, (refl, good.1))))
+
+-- steps stop at one, after good parts that are fewer than they
+pub record Stops {S L : Type 0} (step : S → List ℕ → Result (S × List ℕ) ReadRefusal) (text : L → List ℕ) (next : S → L → S) (Good : S → L → Type 0) (s : S) (count : ℕ) (bytes : List ℕ) (why : ReadRefusal) : Type 0 where
+  pub parts : List L
+  pub rest : List ℕ
+  pub fewer : length parts < count
+  pub encoded : bytes ≡ flat_map text parts ++ rest
+  pub rest_fits : IsBytes rest
+  pub good : AllFrom Good next s parts
+  pub fails : step (after next s parts) rest ≡ Err why
+
+module _ {S L : Type 0} {step : S → List ℕ → Result (S × List ℕ) ReadRefusal} {text : L → List ℕ} {next : S → L → S} {Good : S → L → Type 0} (one : (s : S) → Reads (step s) text (next s) (Good s)) where
+  pub steps_stop : (s : S) (count : ℕ) (bytes : List ℕ) (why : ReadRefusal) → IsBytes bytes → steps_at step s count bytes ≡ Err why → Stops step text next Good s count bytes why
+  unfolding steps_at
+  steps_stop s zero bytes why fits e = absurd (no_failure (s, bytes) why e)
+  steps_stop s (suc count) bytes why fits e =
+      bind_fails_then (step s bytes) (λ y. steps_at step y.0 count y.1) why e
+      (λ at_why. record { parts = []; rest = bytes; fewer = omega arith; encoded = refl; rest_fits = fits; good = tt; fails = at_why })
+      (λ y at_y e_why.
+      let t = (one s).taken bytes y fits at_y in
+      let o = steps_stop y.0 count y.1 why t.takes.rest_fits e_why in
+      record {
+        parts = t.part ∷ o.parts;
+        rest = o.rest;
+        fewer = omega (arith, o.fewer);
+        encoded = t.takes.parts ∙ ap (λ (rest : List ℕ). text t.part ++ rest) o.encoded ∙ sym (append_assoc (text t.part) (flat_map text o.parts) o.rest);
+        rest_fits = o.rest_fits;
+        good = (t.good, subst (λ (now : S). AllFrom Good next now o.parts) (sym t.value_is) o.good);
+        fails = subst (λ (now : S). step (after next now o.parts) o.rest ≡ Err why) (sym t.value_is) o.fails;
+      })
+
+  pub stops_again : (s : S) (parts : List L) (count : ℕ) (rest : List ℕ) (why : ReadRefusal) → length parts < count → AllFrom Good next s parts → step (after next s parts) rest ≡ Err why → steps_at step s count (flat_map text parts ++ rest) ≡ Err why
+  unfolding steps_at
+  stops_again s parts zero rest why lt good e = absurd (omega (arith, lt))
+  stops_again s [] (suc count) rest why lt good e = then_err (λ y. steps_at step y.0 count y.1) e
+  stops_again s (part ∷ parts) (suc count) rest why lt good e =
+      ap (steps_at step s (suc count)) (append_assoc (text part) (flat_map text parts) rest)
+      ∙ then_ok (λ y. steps_at step y.0 count y.1) (Err why) ((one s).again part (flat_map text parts ++ rest) good.0) (stops_again (next s part) parts count rest why (omega (arith, lt)) good.1 e)
 
 -- the value of one more part after the earlier ones
 abbrev pub pushed : {A L : Type 0} → (L → A) → List A → L → List A

@@ -30,20 +30,20 @@ use Rattle.class_file.proofs.Distinct.{IsNew, new_distinct, distinct_new}
 
 -- ---- flags, name and descriptor
 
-abbrev head_bytes : Head → List ℕ
+abbrev pub head_bytes : Head → List ℕ
 head_bytes head = u2 head.flags ++ (u2 head.name ++ u2 head.descriptor)
 
-abbrev a_head : ℕ → ℕ → ℕ → Head
+abbrev pub a_head : ℕ → ℕ → ℕ → Head
 a_head flags name descriptor = record { flags = flags; name = name; descriptor = descriptor }
 
-record IsHead (pool : Slots) (head : Head) : Type 0 where
-  flags : FitsU2 head.flags
-  name : FitsU2 head.name
-  name_is : IsSome (utf8_at pool head.name)
-  descriptor : FitsU2 head.descriptor
-  descriptor_is : IsSome (utf8_at pool head.descriptor)
+pub record IsHead (pool : Slots) (head : Head) : Type 0 where
+  pub flags : FitsU2 head.flags
+  pub name : FitsU2 head.name
+  pub name_is : IsSome (utf8_at pool head.name)
+  pub descriptor : FitsU2 head.descriptor
+  pub descriptor_is : IsSome (utf8_at pool head.descriptor)
 
-head_reads : (pool : Slots) → Reads (head_at pool) head_bytes itself (IsHead pool)
+pub head_reads : (pool : Slots) → Reads (head_at pool) head_bytes itself (IsHead pool)
 unfolding head_at
 head_reads pool =
     reshaped (first u2_reads (λ flags. first (text_reads pool) (λ name. last (text_reads pool) (λ descriptor. a_head flags name descriptor)))) (λ p. a_head p.0 p.1.0 p.1.1)
@@ -151,7 +151,7 @@ field_unmade class_flags pool earlier m good =
     new_from (is_field_head class_flags (head_of m)) (is_declared pool earlier (head_of m)) (and_from (has_one_access m.flags) (fits_interface_field class_flags m.flags) rules.access rules.of_interface) good.1 in
     ((head, rules.type, says_field_type pool m.descriptor rules.type rules.descriptor, test), (fits.count, fits.attributes, rules.attributes, rules.one_value))
 
-field_reads : (class_flags : ℕ) (pool : Slots) (earlier : List Member) → Reads (field_at class_flags pool earlier) member_bytes member_of (IsField class_flags pool earlier)
+pub field_reads : (class_flags : ℕ) (pool : Slots) (earlier : List Member) → Reads (field_at class_flags pool earlier) member_bytes member_of (IsField class_flags pool earlier)
 unfolding field_at
 field_reads class_flags pool earlier =
     reshaped (first (field_head_reads class_flags pool earlier) (λ head. last (field_attributes_read pool) (λ value. a_member head value None))) (λ p. a_layout p.0 p.1)
@@ -250,7 +250,7 @@ method_unmade class_flags pool earlier m good =
     new_from (is_method_head class_flags pool (head_of m) rules.type) (is_declared pool earlier (head_of m)) (rules_hold class_flags pool (head_of m) rules.type keeps) good.1 in
     ((head, rules.type, says_method_type pool m.descriptor rules.type rules.descriptor, test), (fits.count, fits.attributes, rules.attributes, rules.one_code))
 
-method_reads : (class_flags : ℕ) (pool : Slots) (earlier : List Member) → Reads (method_at class_flags pool earlier) member_bytes member_of (IsMethod class_flags pool earlier)
+pub method_reads : (class_flags : ℕ) (pool : Slots) (earlier : List Member) → Reads (method_at class_flags pool earlier) member_bytes member_of (IsMethod class_flags pool earlier)
 unfolding method_at
 method_reads class_flags pool earlier =
     reshaped (first (method_head_reads class_flags pool earlier) (λ head. last (method_attributes_read pool (is_abstract head.flags)) (λ code. a_member head None code))) (λ p. a_layout p.0 p.1)

@@ -38,7 +38,7 @@ prefix_is prefix rest = prefix_by prefix rest (parts_of prefix) (parts_of (prefi
 -- ---- what is said after the magic
 
 -- the bytes are truncated, or have a fault
-abbrev IsWithin : ReadRefusal → Type 0
+abbrev pub IsWithin : ReadRefusal → Type 0
 IsWithin why = (why ≡ Truncated) ⊎ IsFault why
 
 -- a refusal of the bytes as a whole is none of these
@@ -60,7 +60,7 @@ tail_is count (inr fault) = fault
 not_same : (d why : ReadRefusal) → IsOfWhole d → IsWithin why → failed {A = ClassFile} d ≡ Err why → ⊥
 not_same d why whole within e = whole (subst IsWithin (sym (same_why {A = ClassFile} d why e)) within)
 
-not_ended : (x : ClassFile × List ℕ) (why : ReadRefusal) (none : Bool) → IsWithin why → cond none (Ok x.0) (Err (TrailingBytes (capped (length x.1)))) ≡ Err why → ⊥
+pub not_ended : (x : ClassFile × List ℕ) (why : ReadRefusal) (none : Bool) → IsWithin why → cond none (Ok x.0) (Err (TrailingBytes (capped (length x.1)))) ≡ Err why → ⊥
 not_ended x why true within e = no_failure x.0 why e
 not_ended x why false within e = not_same (TrailingBytes (capped (length x.1))) why (tail_is (capped (length x.1))) within e
 
@@ -72,7 +72,7 @@ begun_by bytes r other e =
     (λ size differs is. absurd (other NotClass foreign_is is))
     (λ begun is. (begun, is))
 
-begun_within : (bytes : List ℕ) (why : ReadRefusal) → IsWithin why → class_of bytes ≡ Err why → IsBegun bytes × (body_of (drop 4 bytes) ≡ Err why)
+pub begun_within : (bytes : List ℕ) (why : ReadRefusal) → IsWithin why → class_of bytes ≡ Err why → IsBegun bytes × (body_of (drop 4 bytes) ≡ Err why)
 begun_within bytes why within e = begun_by bytes (Err why) (λ d whole is. not_same d why whole within is) e
 
 -- a prefix and the whole, after the magic of both

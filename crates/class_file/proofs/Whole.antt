@@ -61,10 +61,10 @@ ways C bytes r e large other begun =
 begun_of : (rest : List ℕ) → length (magic ++ rest) ≤ largest → IsBegun (magic ++ rest)
 begun_of rest size = record { size = size; begins = take_at magic rest 4 refl }
 
-class_after : (rest : List ℕ) → length (magic ++ rest) ≤ largest → class_of (magic ++ rest) ≡ body_of rest
+pub class_after : (rest : List ℕ) → length (magic ++ rest) ≤ largest → class_of (magic ++ rest) ≡ body_of rest
 class_after rest size = class_rest (magic ++ rest) (begun_of rest size) ∙ ap body_of (drop_at magic rest 4 refl)
 
-parts_are : (bytes body : List ℕ) → IsBegun bytes → drop 4 bytes ≡ body → bytes ≡ magic ++ body
+pub parts_are : (bytes body : List ℕ) → IsBegun bytes → drop 4 bytes ≡ body → bytes ≡ magic ++ body
 parts_are bytes body is e = sym (take-append-drop 4 bytes) ∙ ap (λ (prefix : List ℕ). prefix ++ drop 4 bytes) is.begins ∙ ap (λ (rest : List ℕ). magic ++ rest) e
 
 -- ---- records

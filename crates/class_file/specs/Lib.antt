@@ -7,4 +7,5 @@ pub mod ReadingMembers
 pub mod ReadingClass
 pub mod Refused
 pub mod Prefixes
+pub mod Faults
 pub mod Texts

@@ -1,3 +1,4 @@
+ghost use Rattle.class_file.specs.Faults.{TruncatedIsUnfinished, BadPoolIsBadEntry};
 ghost use Rattle.class_file.specs.Prefixes.{FaultsHold, PrefixesAreTruncated, PrefixesOfFaults, PrefixesOfTruncated, NoneBeginsWithFaults};
 
 /// A class file that is cut off is truncated, a fault stands whatever follows it, and before the first
@@ -8,4 +9,10 @@ pub fn prefixes_decide()
     ensures none { NoneBeginsWithFaults }
     ensures first { PrefixesOfFaults }
     ensures truncated { PrefixesOfTruncated }
+{}
+
+/// What a fault says of the bytes: they are cut off, or an entry of the pool is the first that is wrong.
+pub fn faults_say()
+    ensures truncated { TruncatedIsUnfinished }
+    ensures pool { BadPoolIsBadEntry }
 {}

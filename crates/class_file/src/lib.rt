@@ -27,7 +27,7 @@ mod texts;
 pub use flags::{
     is_abstract, is_final, is_interface, is_private, is_protected, is_public, is_static,
 };
-pub use laws::prefixes_decide;
+pub use laws::{faults_say, prefixes_decide};
 pub use one_main::is_one_main;
 pub use read::read_class;
 pub use record::{ClassFile, CodeAttr, HandlerRow, Member};

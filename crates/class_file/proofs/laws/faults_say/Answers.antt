@@ -1,0 +1,8 @@
+use Rattle.class_file.proofs.FaultsSay.{truncated_is, bad_pool_is}
+use Rattle.class_file.proofs.laws.faults_say.Goals as goal
+
+pub returns-clause-truncated : goal.returns-clause-truncated
+returns-clause-truncated c = truncated_is
+
+pub returns-clause-pool : goal.returns-clause-pool
+returns-clause-pool c = bad_pool_is
