@@ -20,6 +20,8 @@ pub mod Prefixes
 pub mod Raises
 pub mod PlainParts
 pub mod FaultsSay
+pub mod MembersStop
+pub mod DescriptorsSay
 pub mod MainForm
 pub mod Answers
 pub mod AtOnce

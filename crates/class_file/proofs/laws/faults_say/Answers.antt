@@ -1,3 +1,4 @@
+use Rattle.class_file.proofs.DescriptorsSay.{bad_descriptor_is}
 use Rattle.class_file.proofs.FaultsSay.{truncated_is, bad_pool_is}
 use Rattle.class_file.proofs.laws.faults_say.Goals as goal
 
@@ -6,3 +7,6 @@ returns-clause-truncated c = truncated_is
 
 pub returns-clause-pool : goal.returns-clause-pool
 returns-clause-pool c = bad_pool_is
+
+pub returns-clause-descriptor : goal.returns-clause-descriptor
+returns-clause-descriptor c = bad_descriptor_is
