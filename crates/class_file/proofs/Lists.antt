@@ -71,6 +71,11 @@ module _ {S L : Type 0} {step : S → List ℕ → Result (S × List ℕ) ReadRe
       (λ parts. (length parts, parts))
       (λ parts good. (refl, refl, (good.0, (refl, good.1))))
 
+-- the last of good parts is good, seen from the state that the others left
+pub last_from : {S L : Type 0} (Good : S → L → Type 0) (next : S → L → S) (s : S) (parts : List L) (part : L) → AllFrom Good next s (parts ++ part ∷ []) → Good (after next s parts) part
+last_from Good next s [] part all = all.0
+last_from Good next s (other ∷ parts) part all = last_from Good next (next s other) parts part all.1
+
 -- steps stop at one, after good parts that are fewer than they
 pub record Stops {S L : Type 0} (step : S → List ℕ → Result (S × List ℕ) ReadRefusal) (text : L → List ℕ) (next : S → L → S) (Good : S → L → Type 0) (s : S) (count : ℕ) (bytes : List ℕ) (why : ReadRefusal) : Type 0 where
   pub parts : List L

@@ -20,9 +20,11 @@ use Rattle.class_file.specs.Relation.{FitsU2, FitsMember, IsRegularField, IsRegu
 use Rattle.class_file.specs.Rules.{is_abstract}
 use Rattle.class_file.specs.Reading.{u2_at, counted_at, list_at}
 use Rattle.class_file.specs.ReadingMembers.{head_at, described, field_type, method_type, is_declared, is_field_head, is_method_head, method_attributes_at, field_head_at, method_head_at, field_at, method_at}
-use Rattle.class_file.specs.Faults.{AreMembers, HasMembersThen, BeginsMember}
+use Rattle.class_file.specs.Faults.{AreMembers, HasMembersThen, BeginsMember, BeginsNone}
 use Rattle.class_file.proofs.Parts.{Taken, Reads, itself, last}
-use Rattle.class_file.proofs.Lists.{AllFrom, after, pushed, Stops, steps_stop, stops_again, split_off, merged_with, unzipped, zipped}
+use Rattle.class_file.proofs.Lists.{AllFrom, after, last_from, pushed, Stops, steps_stop, stops_again, split_off, merged_with, unzipped, zipped}
+use Rattle.byte_read.proofs.Steady.{IsSteady}
+use Rattle.class_file.proofs.BeginsNone.{begins_none}
 use Rattle.class_file.proofs.Distinct.{IsNew, new_distinct, distinct_new}
 use Rattle.class_file.proofs.Members.{head_bytes, a_head, IsHead, head_reads}
 use Rattle.class_file.proofs.Told.{no_field, no_method}
@@ -35,6 +37,7 @@ pub record StopsAt (pool : Slots) (Regular : MemberLayout → Type 0) (item : Li
   pub rest : List ℕ
   pub earlier : List Member
   pub members : HasMembersThen pool Regular bytes rest
+  pub earlier_is : earlier ≡ after (pushed member_of) [] members.members
   pub rest_fits : IsBytes rest
   pub fails : item earlier rest ≡ Err why
 
@@ -62,6 +65,7 @@ module _ (pool : Slots) (Regular : MemberLayout → Type 0) (item : List Member 
         rest = s.rest;
         earlier = earlier;
         members = record { count = count.0; members = s.parts; count_fits = fits; fewer = s.fewer; encoded = takes.parts ∙ ap (λ (rest : List ℕ). u2 count.0 ++ rest) s.encoded; are_good = good_members s.parts s.good };
+        earlier_is = refl;
         rest_fits = s.rest_fits;
         fails = bind_fails_then (item earlier s.rest) (λ y. Ok (earlier ++ y.0 ∷ [], y.1)) why s.fails (λ at_why. at_why) (λ y at_y e. absurd (no_failure (earlier ++ y.0 ∷ [], y.1) why e));
       }
@@ -80,6 +84,13 @@ module _ (pool : Slots) (Regular : MemberLayout → Type 0) (item : List Member 
       ap (list_at item) has.encoded
       ∙ then_ok (λ count. steps_at (one_more item) [] count.0 count.1) (Err why) (u2_again Truncated has.count (flat_map member_bytes has.members ++ rest) has.count_fits)
       (stops_again steps [] has.members has.count rest why has.fewer (members_good has.members has.are_good) at_item)
+
+  -- no member begins there that is good with those before it
+  pub none_begins : ((earlier : List Member) → IsSteady Truncated (item earlier)) → (bytes : List ℕ) (why : ReadRefusal) (s : StopsAt pool Regular item bytes why) → (why ≡ Truncated → ⊥) → BeginsNone member_bytes (λ m. AreMembers pool Regular (s.members.members ++ m ∷ [])) s.rest
+  none_begins steady bytes why s not_cut m more suffix are whole =
+      let seen = last_from Good (pushed member_of) [] s.members.members m (members_good (s.members.members ++ m ∷ []) are) in
+      let good : Good s.earlier m = subst (λ (earlier : List Member). Good earlier m) (sym s.earlier_is) seen in
+      begins_none (one s.earlier) (steady s.earlier) s.rest why s.fails not_cut m more suffix good whole
 
 -- ---- a descriptor that is none
 

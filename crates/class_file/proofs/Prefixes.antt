@@ -1,4 +1,4 @@
--- Fronts of bytes: what reading says of a prefix, and what it says of the whole.
+-- Prefixes of bytes: what reading says of a prefix, and what it says of the whole.
 use Rattle.std.proofs.Common.{◌≡◌, ◌⊎◌, ℕ, ◌<◌, ◌≤◌, Bool, true, false, cond, eqb, List, ◌++◌, length, take, drop, Result, Ok, Err, refl, sym, ap, subst, ◌∙◌, append_assoc, arith, inl, inr, length-append, length-take, length-drop}
 use Rattle.std.proofs.lemmas.Bool.{cases_lt, ne_eqb}
 use Rattle.std.proofs.lemmas.List.{take-append-le, take-append-drop, take_at, drop-append-le}

@@ -46,7 +46,7 @@ skip_steady pool value =
     alike (first (text_steady pool) (λ name. last info_steady (λ info. value)))
     (λ bytes. sym (under (text_at pool bytes) _ _ _ (λ name. under (info_at name.1) _ _ _ (λ info. refl))))
 
-skip_all_steady : {A : Type 0} (pool : Slots) (value : A) → IsSteady Truncated (λ bytes. skip_all_at pool bytes >>= λ rest. Ok (value, rest))
+pub skip_all_steady : {A : Type 0} (pool : Slots) (value : A) → IsSteady Truncated (λ bytes. skip_all_at pool bytes >>= λ rest. Ok (value, rest))
 unfolding skip_all_at
 skip_all_steady pool value =
     alike (last (counted_steady (λ (before : Unit {0}). skip_steady pool tt) tt) (λ before. value)) (λ bytes. sym (under (counted_at (skipped pool) tt bytes) _ _ _ (λ x. refl)))
@@ -101,13 +101,13 @@ method_head_steady class_flags pool earlier =
     first (head_steady pool) (λ head. settled (method_type pool head.descriptor) (λ type.
     either (is_method_head class_flags pool head type && not (is_declared pool earlier head)) (done head) (failing BadShape)))
 
-field_steady : (class_flags : ℕ) (pool : Slots) (earlier : List Member) → IsSteady Truncated (field_at class_flags pool earlier)
+pub field_steady : (class_flags : ℕ) (pool : Slots) (earlier : List Member) → IsSteady Truncated (field_at class_flags pool earlier)
 unfolding field_at
 field_steady class_flags pool earlier =
     first (field_head_steady class_flags pool earlier) (λ head. last (field_attributes_steady pool) (λ value.
     record { flags = head.flags; name = head.name; descriptor = head.descriptor; constant = value; code = None }))
 
-method_steady : (class_flags : ℕ) (pool : Slots) (earlier : List Member) → IsSteady Truncated (method_at class_flags pool earlier)
+pub method_steady : (class_flags : ℕ) (pool : Slots) (earlier : List Member) → IsSteady Truncated (method_at class_flags pool earlier)
 unfolding method_at
 method_steady class_flags pool earlier =
     first (method_head_steady class_flags pool earlier) (λ head. last (method_attributes_steady pool (is_abstract head.flags)) (λ code.
@@ -154,7 +154,7 @@ interfaces_steady : (pool : Slots) → IsSteady Truncated (interfaces_at pool)
 unfolding interfaces_at
 interfaces_steady pool = list_steady (λ earlier. class_index_steady pool)
 
-class_head_steady : (pool : Slots) → IsSteady Truncated (class_head_at pool)
+pub class_head_steady : (pool : Slots) → IsSteady Truncated (class_head_at pool)
 unfolding class_head_at
 class_head_steady pool =
     first class_flags_steady (λ flags. first (class_index_steady pool) (λ this_class. first (class_index_steady pool) (λ super_class.

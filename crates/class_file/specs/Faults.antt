@@ -1,6 +1,6 @@
 -- What each fault says of the bytes, in words of the format: what comes before it is good, and what is
 -- there breaks a rule.
-use Rattle.std.specs.Prelude.{◌≡◌, ◌⊎◌, ◌↔◌, ℕ, ◌<◌, ◌≤◌, IsTrue, List, ◌++◌, length, map, take, Some, IsSome}
+use Rattle.std.specs.Prelude.{◌≡◌, ◌⊎◌, ◌↔◌, ℕ, ◌<◌, ◌≤◌, IsTrue, List, [], ◌∷◌, ◌++◌, length, map, take, Some, IsSome}
 use Rattle.std.specs.List.{flat_map, AllByRecursion, IsDistinct}
 use Rattle.class_pool.specs.declared.descriptor.Kind.{Kind}
 use Rattle.class_pool.specs.declared.descriptor.Descriptor.{Descriptor}
@@ -11,10 +11,10 @@ use Rattle.class_pool.specs.Descriptors.{IsFieldText, IsMethodText}
 use Rattle.class_file.specs.declared.record.ClassFile.{ClassFile}
 use Rattle.class_file.specs.declared.class.ClassHead.{ClassHead}
 use Rattle.class_file.specs.declared.refusal.ReadRefusal.{ReadRefusal}
-use Rattle.class_file.specs.declared.refusal.ReadRefusal.TheVariants.{Truncated, BadPool, BadDescriptor}
-use Rattle.class_file.specs.Layout.{u2, counted, magic, MemberLayout, member_bytes, head_of}
+use Rattle.class_file.specs.declared.refusal.ReadRefusal.TheVariants.{Truncated, BadPool, BadShape, BadDescriptor}
+use Rattle.class_file.specs.Layout.{u2, counted, magic, Attribute, attribute_bytes, MemberLayout, member_bytes, head_of}
 use Rattle.class_file.specs.Rules.{are_class_flags, names_class, is_same_member}
-use Rattle.class_file.specs.Relation.{FitsU2, FitsMember, IsRegularField, IsRegularMethod, largest, IsClassFile}
+use Rattle.class_file.specs.Relation.{FitsU2, FitsAttribute, FitsMember, IsSkippable, IsRegularField, IsRegularMethod, largest, IsClassFile}
 use Rattle.class_file.specs.Refused.{IsRefused}
 use Rattle.class_file.specs.Prefixes.{IsFault}
 
@@ -146,3 +146,73 @@ abbrev pub BadDescriptorIsOfMember : Type 0
 BadDescriptorIsOfMember =
     (bytes : List ℕ) (index : ℕ) → AreBytes bytes
     → IsRefused bytes (BadDescriptor index) ↔ ((length bytes ≤ largest) × (HasBadField bytes index ⊎ HasBadMethod bytes index))
+
+-- ---- the shape
+
+-- no such part begins with these bytes, whatever follows them
+abbrev pub BeginsNone : {A : Type 0} → (A → List ℕ) → (A → Type 0) → List ℕ → Type 0
+BeginsNone {A} bytes_of Good bytes = (part : A) (more suffix : List ℕ) → Good part → bytes ++ more ≡ bytes_of part ++ suffix → ⊥
+
+-- after the pool begin no flags, names and interfaces of a class by the rules
+pub record HasBadHead (bytes : List ℕ) : Type 0 where
+  pub pool : Slots
+  pub after_version : List ℕ
+  pub rest : List ℕ
+  pub version : HasVersionThen bytes after_version
+  pub is_pool : IsPool pool
+  pub encoded : after_version ≡ pool_bytes pool ++ rest
+  pub none : BeginsNone class_head_bytes (IsClassHead pool) rest
+
+-- after good fields begins none that is good with them
+pub record HasNoField (bytes : List ℕ) : Type 0 where
+  pub pool : Slots
+  pub head : ClassHead
+  pub after_head : List ℕ
+  pub rest : List ℕ
+  pub class : HasClassThen bytes pool head after_head
+  pub fields : HasMembersThen pool (IsRegularField head.flags pool) after_head rest
+  pub none : BeginsNone member_bytes (λ field. AreMembers pool (IsRegularField head.flags pool) (fields.members ++ field ∷ [])) rest
+
+-- after all fields and good methods begins none that is good with them
+pub record HasNoMethod (bytes : List ℕ) : Type 0 where
+  pub pool : Slots
+  pub head : ClassHead
+  pub fields : List MemberLayout
+  pub after_fields : List ℕ
+  pub rest : List ℕ
+  pub class : HasClassThen bytes pool head (counted member_bytes fields ++ after_fields)
+  pub field_count : FitsU2 (length fields)
+  pub are_fields : AreMembers pool (IsRegularField head.flags pool) fields
+  pub methods : HasMembersThen pool (IsRegularMethod head.flags pool) after_fields rest
+  pub none : BeginsNone member_bytes (λ method. AreMembers pool (IsRegularMethod head.flags pool) (methods.members ++ method ∷ [])) rest
+
+-- attributes of which only the names are asked
+pub record AreAttributes (pool : Slots) (attributes : List Attribute) : Type 0 where
+  pub count : FitsU2 (length attributes)
+  pub fit : AllByRecursion FitsAttribute attributes
+  pub named : AllByRecursion (IsSkippable pool) attributes
+
+-- after all fields and methods begin no attributes with names
+pub record HasNoAttributes (bytes : List ℕ) : Type 0 where
+  pub pool : Slots
+  pub head : ClassHead
+  pub fields : List MemberLayout
+  pub methods : List MemberLayout
+  pub rest : List ℕ
+  pub class : HasClassThen bytes pool head (counted member_bytes fields ++ (counted member_bytes methods ++ rest))
+  pub field_count : FitsU2 (length fields)
+  pub are_fields : AreMembers pool (IsRegularField head.flags pool) fields
+  pub method_count : FitsU2 (length methods)
+  pub are_methods : AreMembers pool (IsRegularMethod head.flags pool) methods
+  pub none : BeginsNone (counted attribute_bytes) (AreAttributes pool) rest
+
+-- the first part that is not there by the rules is of one of these kinds
+pub data IsMisshaped (bytes : List ℕ) : Type 0 where
+  head : HasBadHead bytes → IsMisshaped bytes
+  field : HasNoField bytes → IsMisshaped bytes
+  method : HasNoMethod bytes → IsMisshaped bytes
+  attributes : HasNoAttributes bytes → IsMisshaped bytes
+
+-- bytes that are refused for their shape have such a part, after good ones
+abbrev pub BadShapeIsOfPart : Type 0
+BadShapeIsOfPart = (bytes : List ℕ) → AreBytes bytes → IsRefused bytes BadShape → IsMisshaped bytes

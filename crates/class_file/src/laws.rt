@@ -1,4 +1,4 @@
-ghost use Rattle.class_file.specs.Faults.{TruncatedIsUnfinished, BadPoolIsBadEntry, BadDescriptorIsOfMember};
+ghost use Rattle.class_file.specs.Faults.{TruncatedIsUnfinished, BadPoolIsBadEntry, BadDescriptorIsOfMember, BadShapeIsOfPart};
 ghost use Rattle.class_file.specs.Prefixes.{FaultsHold, PrefixesAreTruncated, PrefixesOfFaults, PrefixesOfTruncated, NoneBeginsWithFaults};
 
 /// A class file that is cut off is truncated, a fault stands whatever follows it, and before the first
@@ -11,10 +11,11 @@ pub fn prefixes_decide()
     ensures truncated { PrefixesOfTruncated }
 {}
 
-/// What a fault says of the bytes: they are cut off, an entry of the pool is the first that is wrong, or
-/// after good members begins one whose descriptor is none.
+/// What a fault says of the bytes: they are cut off, or after good parts an entry of the pool is wrong, a
+/// member has a descriptor that is none, or no part by the rules begins.
 pub fn faults_say()
     ensures truncated { TruncatedIsUnfinished }
     ensures pool { BadPoolIsBadEntry }
     ensures descriptor { BadDescriptorIsOfMember }
+    ensures shape { BadShapeIsOfPart }
 {}

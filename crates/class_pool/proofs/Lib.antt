@@ -1,17 +1,54 @@
+-- ---- the constant pool
+
+-- Modified UTF-8: the test says what the units say.
 pub mod Texts
-pub mod Steps
-pub mod Steady
-pub mod Loop
-pub mod Linked
+
+-- An entry is a tag and the parts after it.
 pub mod Parts
+
+-- What follows a tag is read where it is encoded so, and is refused where it is cut or no text.
 pub mod Bodies
+
+-- An entry is read where it is encoded, and refused where it is refused.
 pub mod Entries
+
+-- Places are read one after the other where they are encoded, up to the first entry that is refused.
 pub mod SlotLists
+
+-- The first entry of a pool that names what is not there.
+pub mod Linked
+
+-- A pool is read where it is encoded, and bytes are refused for what is wrong first.
 pub mod Pools
-pub mod Scans
-pub mod ClassNames
-pub mod FieldTypes
-pub mod Parameters
-pub mod Skips
-pub mod Calls
+
+-- Where the places of a pool have no entry.
 pub mod Spacing
+
+-- Reading places one after the other, as a loop does.
+pub mod Loop
+
+-- What a reading function answered, against what reading gives.
+pub mod Steps
+
+-- The constant pool is read by the prefix: what is read of it, and a fault, holds whatever follows.
+pub mod Steady
+
+-- ---- descriptors
+
+-- Scanning a text byte by byte, as loops do.
+pub mod Scans
+
+-- A class name is read up to its `;`, and what is read is one.
+pub mod ClassNames
+
+-- A type is read where it is encoded, and what is read is one.
+pub mod FieldTypes
+
+-- Parameters and the descriptor of a method are read where they are encoded, and what is read is one.
+pub mod Parameters
+
+-- What follows the parts of a descriptor is found without their values, and with it whether a text is one.
+pub mod Skips
+
+-- What a call answers, where reading gives each value for its texts and no other.
+pub mod Calls

@@ -1,4 +1,5 @@
 use Rattle.class_file.proofs.DescriptorsSay.{bad_descriptor_is}
+use Rattle.class_file.proofs.ShapeSays.{bad_shape_is}
 use Rattle.class_file.proofs.FaultsSay.{truncated_is, bad_pool_is}
 use Rattle.class_file.proofs.laws.faults_say.Goals as goal
 
@@ -10,3 +11,6 @@ returns-clause-pool c = bad_pool_is
 
 pub returns-clause-descriptor : goal.returns-clause-descriptor
 returns-clause-descriptor c = bad_descriptor_is
+
+pub returns-clause-shape : goal.returns-clause-shape
+returns-clause-shape c = bad_shape_is
