@@ -1,21 +1,19 @@
 -- What a bad descriptor is, in words of the format.
-use Rattle.std.proofs.Common.{◌≡◌, ◌⊎◌, ◌↔◌, ℕ, ◌<◌, ◌≤◌, List, ◌∷◌, ◌++◌, length, Result, Ok, Err, refl, sym, ap, subst, ◌∙◌, append_assoc, inl, inr}
+use Rattle.std.proofs.Common.{◌≡◌, ◌⊎◌, ◌↔◌, ℕ, ◌≤◌, List, ◌++◌, length, Err, refl, ap, subst, ◌∙◌, inl, inr}
 use Rattle.class_pool.specs.declared.refusal.PoolRefusal.{PoolRefusal}
 use Rattle.class_pool.specs.declared.refusal.PoolRefusal.TheVariants.{Truncated as PoolTruncated, BadTag, BadIndex, BadUtf8, Memory as PoolMemory}
 use Rattle.class_pool.specs.Pool.{Slots, pool_bytes, IsPool}
-use Rattle.byte_read.specs.Reading.{◌>>=◌}
-use Rattle.byte_read.proofs.Steps.{IsBytes, Takes, bind_fails_then, no_failure, then_ok, then_err}
+use Rattle.byte_read.proofs.Steps.{IsBytes, bind_fails_then, no_failure, then_ok, then_err}
 use Rattle.class_file.specs.declared.class.ClassHead.{ClassHead}
 use Rattle.class_file.specs.declared.record.Member.{Member}
 use Rattle.class_file.specs.declared.refusal.ReadRefusal.{ReadRefusal}
-use Rattle.class_file.specs.declared.refusal.ReadRefusal.TheVariants.{Truncated, BadShape, BadDescriptor}
-use Rattle.class_file.specs.Layout.{u2, counted, MemberLayout, member_bytes}
-use Rattle.class_file.specs.Relation.{FitsU2, IsRegularField, IsRegularMethod, largest}
+use Rattle.class_file.specs.declared.refusal.ReadRefusal.TheVariants.{Truncated, BadDescriptor}
+use Rattle.class_file.specs.Layout.{counted, MemberLayout, member_bytes}
+use Rattle.class_file.specs.Relation.{IsRegularField, IsRegularMethod, largest}
 use Rattle.class_file.specs.ReadingMembers.{field_at, method_at, fields_at, methods_at}
 use Rattle.class_file.specs.ReadingClass.{of_pool, pool_at, class_head_at, members_at, class_of}
 use Rattle.class_file.specs.Refused.{IsRefused}
-use Rattle.class_file.specs.Faults.{AreBytes, HasVersionThen, IsClassHead, class_head_bytes, HasClassThen, AreMembers, HasMembersThen, HasBadField, HasBadMethod}
-use Rattle.class_file.proofs.Parts.{Taken, itself}
+use Rattle.class_file.specs.Faults.{AreBytes, HasVersionThen, IsClassHead, class_head_bytes, HasClassThen, HasMembersThen, HasBadField, HasBadMethod}
 use Rattle.class_file.proofs.Members.{AreFields, fields_read, field_reads, method_reads}
 use Rattle.class_file.proofs.ClassParts.{Numbers, pool_reads, class_head_reads, after_version}
 use Rattle.class_file.proofs.Told.{no_field, no_method}

@@ -1,5 +1,5 @@
 -- What truncated bytes and a bad pool are, in words of the format.
-use Rattle.std.proofs.Common.{◌≡◌, ◌⊎◌, ◌↔◌, ℕ, zero, suc, ◌<◌, ◌≤◌, List, [], ◌∷◌, ◌++◌, length, get_or, drop, Result, Ok, Err, refl, sym, ap, subst, ◌∙◌, append_assoc, arith, inl, inr}
+use Rattle.std.proofs.Common.{◌≡◌, ◌↔◌, ℕ, zero, suc, ◌≤◌, List, [], ◌∷◌, ◌++◌, length, drop, Result, Ok, Err, refl, sym, ap, subst, ◌∙◌, append_assoc, arith, inl, inr}
 use Rattle.std.proofs.lemmas.List.{append-nil}
 use Rattle.class_pool.specs.declared.refusal.PoolRefusal.{PoolRefusal}
 use Rattle.class_pool.specs.declared.refusal.PoolRefusal.TheVariants.{Truncated as PoolTruncated, BadTag, BadIndex, BadUtf8, Memory as PoolMemory}
@@ -7,22 +7,20 @@ use Rattle.class_pool.specs.PoolRefused.{IsRefused as IsPoolRefused}
 use Rattle.class_pool.specs.Pool.{Slots}
 use Rattle.class_pool.specs.PoolReading.{pool_from}
 use Rattle.class_pool.proofs.Pools.{from_fails, from_refused}
-use Rattle.byte_read.specs.Reading.{◌>>=◌}
 use Rattle.byte_read.proofs.Steps.{IsBytes, IsBytes-drop, bind_fails_then, no_failure, same_why, failed, then_ok, then_err}
 use Rattle.class_file.specs.declared.record.ClassFile.{ClassFile}
 use Rattle.class_file.specs.declared.refusal.ReadRefusal.{ReadRefusal}
 use Rattle.class_file.specs.declared.refusal.ReadRefusal.TheVariants.{NotClass, Version, Truncated, TrailingBytes, BadPool, BadShape, BadDescriptor, TooLarge, Memory}
 use Rattle.class_file.specs.Layout.{u2, magic}
 use Rattle.class_file.specs.Relation.{largest, IsClassFile}
-use Rattle.class_file.specs.ReadingClass.{of_pool, after_pool, pool_at, body_of, class_of}
+use Rattle.class_file.specs.ReadingClass.{of_pool, after_pool, pool_at, class_of}
 use Rattle.class_file.specs.Refused.{HasTail, IsRefused}
 use Rattle.class_file.specs.Prefixes.{IsFault}
 use Rattle.class_file.specs.Faults.{AreBytes, IsUnfinished, HasVersionThen, IsBadEntry, HasBadEntry}
 use Rattle.class_file.proofs.ClassParts.{Numbers, numbers_bytes, IsVersion, version_taken, version_again, after_version}
 use Rattle.class_file.proofs.Body.{parts_of, ended, body_is}
-use Rattle.class_file.proofs.Whole.{IsBegun, class_after, parts_are, file_is, file_again, refused_is, refused_so}
+use Rattle.class_file.proofs.Whole.{class_after, parts_are, file_is, file_again, refused_is, refused_so}
 use Rattle.class_file.proofs.Prefixes.{begun_within, not_ended, faults_hold}
-use Rattle.class_file.proofs.Raises.{Raises}
 use Rattle.class_file.proofs.PlainParts.{version_raises, class_head_raises, members_raise}
 
 -- numbers below 256 are bytes, index by index

@@ -1,7 +1,7 @@
 -- A list of members is refused for one of them, after good ones; and where a descriptor is none.
-use Rattle.std.proofs.Common.{◌≡◌, ℕ, ◌<◌, ◌&&◌, not, List, [], ◌∷◌, ◌++◌, length, map, Option, Some, None, Result, Ok, Err, refl, sym, ap, subst, ◌∙◌, append_assoc}
+use Rattle.std.proofs.Common.{◌≡◌, ℕ, ◌&&◌, not, List, [], ◌∷◌, ◌++◌, Option, Some, None, Result, Ok, Err, refl, sym, ap, subst, ◌∙◌, append_assoc}
 use Rattle.std.specs.Prelude.{IsSome, option_and_then}
-use Rattle.std.specs.List.{flat_map, AllByRecursion, IsDistinct}
+use Rattle.std.specs.List.{flat_map}
 use Rattle.class_pool.specs.declared.descriptor.Kind.{Kind}
 use Rattle.class_pool.specs.declared.descriptor.Descriptor.{Descriptor}
 use Rattle.class_pool.specs.Pool.{Slots, utf8_at}
@@ -9,25 +9,24 @@ use Rattle.class_pool.specs.Descriptors.{IsFieldText, IsMethodText}
 use Rattle.class_pool.specs.DescriptorReading.{field_of, method_of}
 use Rattle.class_pool.proofs.FieldTypes.{field_taken}
 use Rattle.class_pool.proofs.Parameters.{method_taken}
-use Rattle.byte_read.specs.Reading.{◌>>=◌, steps_at, one_more}
-use Rattle.byte_read.proofs.Steps.{IsBytes, Takes, bind_fails_then, no_failure, same_why, stops, number_fails, u2_takes, u2_again, then_ok, then_err, failed}
+use Rattle.byte_read.specs.Reading.{steps_at, one_more}
+use Rattle.byte_read.proofs.Steps.{IsBytes, Takes, bind_fails_then, no_failure, same_why, stops, number_fails, u2_takes, u2_again, then_ok, then_err}
 use Rattle.class_file.specs.declared.head.Head.{Head}
 use Rattle.class_file.specs.declared.record.Member.{Member}
 use Rattle.class_file.specs.declared.refusal.ReadRefusal.{ReadRefusal}
 use Rattle.class_file.specs.declared.refusal.ReadRefusal.TheVariants.{Truncated, BadShape, BadDescriptor}
-use Rattle.class_file.specs.Layout.{u2, counted, MemberLayout, member_bytes, member_of}
-use Rattle.class_file.specs.Relation.{FitsU2, FitsMember, IsRegularField, IsRegularMethod}
+use Rattle.class_file.specs.Layout.{u2, MemberLayout, member_bytes, member_of}
+use Rattle.class_file.specs.Relation.{FitsU2, FitsMember}
 use Rattle.class_file.specs.Rules.{is_abstract}
 use Rattle.class_file.specs.Reading.{u2_at, counted_at, list_at}
 use Rattle.class_file.specs.ReadingMembers.{head_at, described, field_type, method_type, is_declared, is_field_head, is_method_head, method_attributes_at, field_head_at, method_head_at, field_at, method_at}
 use Rattle.class_file.specs.Faults.{AreMembers, HasMembersThen, BeginsMember, BeginsNone}
-use Rattle.class_file.proofs.Parts.{Taken, Reads, itself, last}
+use Rattle.class_file.proofs.Parts.{Reads, last}
 use Rattle.class_file.proofs.Lists.{AllFrom, after, last_from, pushed, Stops, steps_stop, stops_again, split_off, merged_with, unzipped, zipped}
 use Rattle.byte_read.proofs.Steady.{IsSteady}
 use Rattle.class_file.proofs.BeginsNone.{begins_none}
 use Rattle.class_file.proofs.Distinct.{IsNew, new_distinct, distinct_new}
 use Rattle.class_file.proofs.Members.{head_bytes, a_head, IsHead, head_reads}
-use Rattle.class_file.proofs.Told.{no_field, no_method}
 use Rattle.class_file.proofs.PlainParts.{head_raises, field_attributes_raise, method_attributes_raise}
 
 -- ---- lists

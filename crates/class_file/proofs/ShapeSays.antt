@@ -1,21 +1,19 @@
 -- What a bad shape is, in words of the format: the part that is not there by the rules, after good ones.
-use Rattle.std.proofs.Common.{◌≡◌, ℕ, List, ◌++◌, length, Result, Ok, Err, sym, ap, subst, ◌∙◌, refl}
+use Rattle.std.proofs.Common.{◌≡◌, ℕ, List, ◌++◌, Err, ap, subst, ◌∙◌, refl}
 use Rattle.class_pool.specs.declared.refusal.PoolRefusal.{PoolRefusal}
 use Rattle.class_pool.specs.declared.refusal.PoolRefusal.TheVariants.{Truncated as PoolTruncated, BadTag, BadIndex, BadUtf8, Memory as PoolMemory}
 use Rattle.class_pool.specs.Pool.{Slots, pool_bytes, IsPool}
-use Rattle.byte_read.specs.Reading.{◌>>=◌}
 use Rattle.byte_read.proofs.Steps.{IsBytes, bind_fails_then, no_failure}
 use Rattle.class_file.specs.declared.class.ClassHead.{ClassHead}
 use Rattle.class_file.specs.declared.record.Member.{Member}
-use Rattle.class_file.specs.declared.refusal.ReadRefusal.{ReadRefusal}
 use Rattle.class_file.specs.declared.refusal.ReadRefusal.TheVariants.{Truncated, BadShape}
-use Rattle.class_file.specs.Layout.{Attribute, attribute_bytes, counted, MemberLayout, member_bytes}
+use Rattle.class_file.specs.Layout.{attribute_bytes, counted, MemberLayout, member_bytes}
 use Rattle.class_file.specs.Relation.{IsRegularField, IsRegularMethod}
 use Rattle.class_file.specs.ReadingMembers.{field_at, method_at, fields_at, methods_at}
 use Rattle.class_file.specs.ReadingClass.{of_pool, pool_at, class_head_at, members_at}
 use Rattle.class_file.specs.Refused.{IsRefused}
-use Rattle.class_file.specs.Faults.{AreBytes, HasVersionThen, IsClassHead, class_head_bytes, HasClassThen, BeginsNone, HasBadHead, HasNoField, HasNoMethod, AreAttributes, HasNoAttributes, IsMisshaped, head, field, method, attributes}
-use Rattle.class_file.proofs.Members.{AreFields, fields_read, field_reads, AreMethods, methods_read, method_reads}
+use Rattle.class_file.specs.Faults.{AreBytes, HasVersionThen, IsClassHead, class_head_bytes, HasClassThen, BeginsNone, HasNoField, HasNoMethod, AreAttributes, IsMisshaped, head, field, method, attributes}
+use Rattle.class_file.proofs.Members.{AreFields, fields_read, field_reads, methods_read, method_reads}
 use Rattle.class_file.proofs.Attributes.{skip_after}
 use Rattle.class_file.proofs.ClassParts.{Numbers, pool_reads, class_head_reads, after_version}
 use Rattle.class_file.proofs.PlainParts.{pool_raises}
