@@ -5,9 +5,13 @@
 #![tactic(auto)]
 
 mod code;
+mod group;
 mod insn;
+mod known;
 mod moves;
+mod opcode;
 mod operand;
+mod plain;
 mod read;
 mod shape;
 mod signature;

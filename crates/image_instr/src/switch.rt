@@ -10,14 +10,12 @@ ghost use Rattle.image_instr.specs.Reading.{key_in, is_above, keys_rise as keys_
 ghost use Rattle.image_instr.specs.Switch.{IsSwitchFirst, IsSwitchAt, default_of, target_in, rows_target, targets_target};
 
 use crate::insn::{MInsn, Width};
+use crate::opcode::SWITCH2;
 use crate::operand::{i4, u2};
 use byteorder::{BigEndian, ByteOrder};
 
 /// The bytes of a row: its key in four, its target in two.
 const ROW: usize = 6;
-
-/// The first byte of SWITCH2; the tables are after it.
-const LAST_SWITCH: u8 = 0x76;
 
 /// The key of the row at the prefix.
 fn key(row: &[u8]) -> i32
@@ -238,7 +236,8 @@ fn first_target(bytes: &[u8], key: i32) -> u16
         IsAtPrefix insn rows size bytes.now → result ≡ target_in (default_of insn) rows key }
 {
     let operands = bytes_from(bytes, 1);
-    if bytes[0] <= LAST_SWITCH {
+    // The tables are after the switches.
+    if bytes[0] <= SWITCH2 {
         switch_operands_target(operands, key)
     } else {
         table_operands_target(operands, key)

@@ -6,6 +6,7 @@ ghost use Rattle.image_instr.specs.Insn.{u2, i1, i2, i4, index as index_bytes, h
 
 use crate::code::*;
 use crate::insn::{MInsn, SwitchRow};
+use crate::opcode::*;
 use byteorder::{BigEndian, ByteOrder};
 use std::alloc::{AllocError, Global};
 
@@ -215,33 +216,33 @@ fn append(insn: MInsn, rows: &[SwitchRow], out: &mut Vec<u8>) -> Result<(), Memo
     ensures row_ranges { OnOk result (All HasRowRanges rows.now) }
 {
     match insn {
-        MInsn::Const1 { value } => short(0x01, value.cast_unsigned(), out),
-        MInsn::Const2 { value } => int(0x02, value, out),
-        MInsn::Small1 { value } => byte(0x03, value.cast_unsigned(), out),
-        MInsn::Small2 { value } => byte(0x04, value.cast_unsigned(), out),
-        MInsn::Mid2 { value } => short(0x05, value.cast_unsigned(), out),
-        MInsn::Null => bare(0x06, out),
+        MInsn::Const1 { value } => short(CONST1, value.cast_unsigned(), out),
+        MInsn::Const2 { value } => int(CONST2, value, out),
+        MInsn::Small1 { value } => byte(SMALL1, value.cast_unsigned(), out),
+        MInsn::Small2 { value } => byte(SMALL2, value.cast_unsigned(), out),
+        MInsn::Mid2 { value } => short(MID2, value.cast_unsigned(), out),
+        MInsn::Null => bare(NULL, out),
         MInsn::Load { kind, local } => index(load_code(kind), local, out),
         MInsn::Store { kind, local } => index(store_code(kind), local, out),
-        MInsn::RClear { local } => index(0x09, local, out),
+        MInsn::RClear { local } => index(RCLEAR, local, out),
         MInsn::Inc {
             width,
             local,
             amount,
         } => index_short(inc_code(width), local, amount, out),
-        MInsn::RDupX { m, n } => halves(0x10, m, n, out),
-        MInsn::DupX { m, n } => halves(0x11, m, n, out),
-        MInsn::RPop { count } => byte(0x12, count, out),
-        MInsn::Pop { count } => byte(0x13, count, out),
-        MInsn::RSwap => bare(0x14, out),
-        MInsn::Swap { m, n } => halves(0x15, m, n, out),
-        MInsn::Drop { above } => index(0x16, above, out),
+        MInsn::RDupX { m, n } => halves(RDUPX, m, n, out),
+        MInsn::DupX { m, n } => halves(DUPX, m, n, out),
+        MInsn::RPop { count } => byte(RPOP, count, out),
+        MInsn::Pop { count } => byte(POP, count, out),
+        MInsn::RSwap => bare(RSWAP, out),
+        MInsn::Swap { m, n } => halves(SWAP, m, n, out),
+        MInsn::Drop { above } => index(DROP, above, out),
         MInsn::Bin { width, operation } => bare(bin_code(width) + operation_code(operation), out),
         MInsn::Neg { width } => bare(neg_code(width), out),
-        MInsn::Sx => bare(0x41, out),
-        MInsn::Zx => bare(0x42, out),
-        MInsn::Sb => bare(0x43, out),
-        MInsn::Bit => bare(0x44, out),
+        MInsn::Sx => bare(SX, out),
+        MInsn::Zx => bare(ZX, out),
+        MInsn::Sb => bare(SB, out),
+        MInsn::Bit => bare(BIT, out),
         MInsn::Jz {
             width,
             condition,
@@ -253,7 +254,7 @@ fn append(insn: MInsn, rows: &[SwitchRow], out: &mut Vec<u8>) -> Result<(), Memo
             target,
         } => short(jcmp_code(width) + condition_code(condition), target, out),
         MInsn::RJ { test, target } => short(test_code(test), target, out),
-        MInsn::Goto { target } => short(0x74, target, out),
+        MInsn::Goto { target } => short(GOTO, target, out),
         MInsn::Switch {
             width,
             default,
@@ -271,18 +272,18 @@ fn append(insn: MInsn, rows: &[SwitchRow], out: &mut Vec<u8>) -> Result<(), Memo
         MInsn::GetF { kind, place } => index(get_field_code(kind), place, out),
         MInsn::PutF { kind, place } => index(put_field_code(kind), place, out),
         MInsn::NewArr { width, id } => short(new_array_code(width), id, out),
-        MInsn::Multi { id, dims } => short_byte(0x92, id, dims, out),
-        MInsn::ALen => bare(0x93, out),
+        MInsn::Multi { id, dims } => short_byte(MULTI, id, dims, out),
+        MInsn::ALen => bare(ALEN, out),
         MInsn::ALoad { element, width } => bare(load_element_code(element, width), out),
         MInsn::AStore { element, width } => bare(store_element_code(element, width), out),
-        MInsn::New { id } => short(0xb0, id, out),
-        MInsn::Cast { id } => short(0xb1, id, out),
-        MInsn::Inst { id } => short(0xb2, id, out),
-        MInsn::Throw => bare(0xb3, out),
-        MInsn::CallS { method } => short(0xb4, method, out),
-        MInsn::CallX { method } => short(0xb5, method, out),
-        MInsn::CallV { selector } => short(0xb6, selector, out),
-        MInsn::CallI { selector, id } => two_shorts(0xb7, selector, id, out),
+        MInsn::New { id } => short(NEW, id, out),
+        MInsn::Cast { id } => short(CAST, id, out),
+        MInsn::Inst { id } => short(INST, id, out),
+        MInsn::Throw => bare(THROW, out),
+        MInsn::CallS { method } => short(CALLS, method, out),
+        MInsn::CallX { method } => short(CALLX, method, out),
+        MInsn::CallV { selector } => short(CALLV, selector, out),
+        MInsn::CallI { selector, id } => two_shorts(CALLI, selector, id, out),
     }
 }
 
