@@ -5,6 +5,7 @@ ghost use Rattle.class_code.specs.Operands.{Gives};
 ghost use Rattle.class_code.specs.Table.{condition, ref_condition, jump, branch};
 
 use crate::insn::Insn;
+use crate::opcode::{IF_ACMPEQ, IF_ACMPNE, IF_ICMPEQ, IF_ICMPLE, IFEQ, IFLE, IFNULL};
 use crate::operand::target_at;
 use crate::refusal::Fault;
 use cell_num::Cond;
@@ -31,9 +32,9 @@ fn ref_condition(opcode: u8) -> RefCond
     ensures { result ≡ ref_condition opcode }
 {
     match opcode {
-        165 => RefCond::Eq,
-        166 => RefCond::Ne,
-        198 => RefCond::Null,
+        IF_ACMPEQ => RefCond::Eq,
+        IF_ACMPNE => RefCond::Ne,
+        IFNULL => RefCond::Null,
         _ => RefCond::NonNull,
     }
 }
@@ -44,8 +45,8 @@ fn jump(opcode: u8, target: u32) -> Insn
     ensures { result ≡ jump opcode target }
 {
     match opcode {
-        153..=158 => Insn::If(condition(opcode - 153), target),
-        159..=164 => Insn::IfCmp(condition(opcode - 159), target),
+        IFEQ..=IFLE => Insn::If(condition(opcode - IFEQ), target),
+        IF_ICMPEQ..=IF_ICMPLE => Insn::IfCmp(condition(opcode - IF_ICMPEQ), target),
         _ => Insn::IfRef(ref_condition(opcode), target),
     }
 }

@@ -5,6 +5,7 @@ ghost use Rattle.class_code.specs.Operands.{Gives};
 ghost use Rattle.class_code.specs.Table.{control};
 
 use crate::insn::Insn;
+use crate::opcode::{ARETURN, GOTO, IRETURN, LOOKUPSWITCH, RETURN, TABLESWITCH};
 use crate::operand::target_at;
 use crate::refusal::Fault;
 use crate::switch::{lookupswitch, tableswitch};
@@ -22,15 +23,15 @@ pub(crate) fn control(
     ensures { Gives (λ x. (x.0, x.1.now)) result (control pc opcode operands.now) }
 {
     match opcode {
-        167 => {
+        GOTO => {
             let (target, rest) = target_at(pc, operands)?;
             Ok((Insn::Goto(target), rest))
         }
-        170 => tableswitch(alloc, pc, operands),
-        171 => lookupswitch(alloc, pc, operands),
-        172 => Ok((Insn::Return(Some(ValueKind::Int)), operands)),
-        176 => Ok((Insn::Return(Some(ValueKind::Ref)), operands)),
-        177 => Ok((Insn::Return(None), operands)),
+        TABLESWITCH => tableswitch(alloc, pc, operands),
+        LOOKUPSWITCH => lookupswitch(alloc, pc, operands),
+        IRETURN => Ok((Insn::Return(Some(ValueKind::Int)), operands)),
+        ARETURN => Ok((Insn::Return(Some(ValueKind::Ref)), operands)),
+        RETURN => Ok((Insn::Return(None), operands)),
         _ => Err(Fault::Unsupported(opcode)),
     }
 }

@@ -15,6 +15,7 @@ mod flow;
 mod insn;
 mod local;
 mod math;
+mod opcode;
 mod operand;
 mod reference;
 mod refusal;

@@ -5,6 +5,10 @@ ghost use Rattle.class_code.specs.Operands.{Gives};
 ghost use Rattle.class_code.specs.Table.{load, store};
 
 use crate::insn::Insn;
+use crate::opcode::{
+    ALOAD, ALOAD_0, ALOAD_3, ASTORE, ASTORE_0, ASTORE_3, ILOAD, ILOAD_0, ILOAD_3, ISTORE, ISTORE_0,
+    ISTORE_3,
+};
 use crate::operand::u1_at;
 use crate::refusal::Fault;
 use insn_form::ValueKind;
@@ -15,16 +19,22 @@ pub(crate) fn load(opcode: u8, operands: &[u8]) -> Result<(Insn, &[u8]), Fault>
     ensures { Gives (λ x. (x.0, x.1.now)) result (load opcode operands.now) }
 {
     match opcode {
-        21 => {
+        ILOAD => {
             let (local, rest) = u1_at(operands)?;
             Ok((Insn::Load(ValueKind::Int, u16::from(local)), rest))
         }
-        25 => {
+        ALOAD => {
             let (local, rest) = u1_at(operands)?;
             Ok((Insn::Load(ValueKind::Ref, u16::from(local)), rest))
         }
-        26..=29 => Ok((Insn::Load(ValueKind::Int, u16::from(opcode - 26)), operands)),
-        42..=45 => Ok((Insn::Load(ValueKind::Ref, u16::from(opcode - 42)), operands)),
+        ILOAD_0..=ILOAD_3 => Ok((
+            Insn::Load(ValueKind::Int, u16::from(opcode - ILOAD_0)),
+            operands,
+        )),
+        ALOAD_0..=ALOAD_3 => Ok((
+            Insn::Load(ValueKind::Ref, u16::from(opcode - ALOAD_0)),
+            operands,
+        )),
         _ => Err(Fault::Unsupported(opcode)),
     }
 }
@@ -35,20 +45,20 @@ pub(crate) fn store(opcode: u8, operands: &[u8]) -> Result<(Insn, &[u8]), Fault>
     ensures { Gives (λ x. (x.0, x.1.now)) result (store opcode operands.now) }
 {
     match opcode {
-        54 => {
+        ISTORE => {
             let (local, rest) = u1_at(operands)?;
             Ok((Insn::Store(ValueKind::Int, u16::from(local)), rest))
         }
-        58 => {
+        ASTORE => {
             let (local, rest) = u1_at(operands)?;
             Ok((Insn::Store(ValueKind::Ref, u16::from(local)), rest))
         }
-        59..=62 => Ok((
-            Insn::Store(ValueKind::Int, u16::from(opcode - 59)),
+        ISTORE_0..=ISTORE_3 => Ok((
+            Insn::Store(ValueKind::Int, u16::from(opcode - ISTORE_0)),
             operands,
         )),
-        75..=78 => Ok((
-            Insn::Store(ValueKind::Ref, u16::from(opcode - 75)),
+        ASTORE_0..=ASTORE_3 => Ok((
+            Insn::Store(ValueKind::Ref, u16::from(opcode - ASTORE_0)),
             operands,
         )),
         _ => Err(Fault::Unsupported(opcode)),

@@ -5,6 +5,9 @@ ghost use Rattle.class_code.specs.Operands.{Gives};
 ghost use Rattle.class_code.specs.Table.{operation, increment, math, conversion};
 
 use crate::insn::Insn;
+use crate::opcode::{
+    I2B, I2C, I2S, IADD, IAND, IDIV, IINC, IMUL, INEG, IOR, IREM, ISHL, ISHR, ISUB, IUSHR, IXOR,
+};
 use crate::operand::{i1_at, u1_at};
 use crate::refusal::Fault;
 use cell_num::{BinOp, Conv};
@@ -15,17 +18,17 @@ fn operation(opcode: u8) -> Option<BinOp>
     ensures { result ≡ operation opcode }
 {
     match opcode {
-        96 => Some(BinOp::Add),
-        100 => Some(BinOp::Sub),
-        104 => Some(BinOp::Mul),
-        108 => Some(BinOp::Div),
-        112 => Some(BinOp::Rem),
-        120 => Some(BinOp::Shl),
-        122 => Some(BinOp::Shr),
-        124 => Some(BinOp::Ushr),
-        126 => Some(BinOp::And),
-        128 => Some(BinOp::Or),
-        130 => Some(BinOp::Xor),
+        IADD => Some(BinOp::Add),
+        ISUB => Some(BinOp::Sub),
+        IMUL => Some(BinOp::Mul),
+        IDIV => Some(BinOp::Div),
+        IREM => Some(BinOp::Rem),
+        ISHL => Some(BinOp::Shl),
+        ISHR => Some(BinOp::Shr),
+        IUSHR => Some(BinOp::Ushr),
+        IAND => Some(BinOp::And),
+        IOR => Some(BinOp::Or),
+        IXOR => Some(BinOp::Xor),
         _ => None,
     }
 }
@@ -50,8 +53,8 @@ pub(crate) fn math(opcode: u8, operands: &[u8]) -> Result<(Insn, &[u8]), Fault>
     ensures { Gives (λ x. (x.0, x.1.now)) result (math opcode operands.now) }
 {
     match opcode {
-        116 => Ok((Insn::Neg, operands)),
-        132 => increment(operands),
+        INEG => Ok((Insn::Neg, operands)),
+        IINC => increment(operands),
         _ => match operation(opcode) {
             Some(operation) => Ok((Insn::Bin(operation), operands)),
             None => Err(Fault::Unsupported(opcode)),
@@ -65,9 +68,9 @@ pub(crate) fn conversion(opcode: u8, operands: &[u8]) -> Result<(Insn, &[u8]), F
     ensures { Gives (λ x. (x.0, x.1.now)) result (conversion opcode operands.now) }
 {
     match opcode {
-        145 => Ok((Insn::Convert(Conv::Byte), operands)),
-        146 => Ok((Insn::Convert(Conv::Char), operands)),
-        147 => Ok((Insn::Convert(Conv::Short), operands)),
+        I2B => Ok((Insn::Convert(Conv::Byte), operands)),
+        I2C => Ok((Insn::Convert(Conv::Char), operands)),
+        I2S => Ok((Insn::Convert(Conv::Short), operands)),
         _ => Err(Fault::Unsupported(opcode)),
     }
 }

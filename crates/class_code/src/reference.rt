@@ -6,6 +6,10 @@ ghost use Rattle.class_code.specs.Table.{call_interface, member_insn, member, cl
 
 use crate::array::new_array;
 use crate::insn::Insn;
+use crate::opcode::{
+    ANEWARRAY, ARRAYLENGTH, ATHROW, CHECKCAST, GETFIELD, GETSTATIC, INVOKEDYNAMIC, INVOKEINTERFACE,
+    INVOKESPECIAL, INVOKEVIRTUAL, MONITORENTER, MONITOREXIT, NEW, NEWARRAY, PUTFIELD, PUTSTATIC,
+};
 use crate::operand::{u1_at, u2_at};
 use crate::refusal::Fault;
 
@@ -29,12 +33,12 @@ fn member_insn(opcode: u8, index: u16) -> Insn
     ensures { result ≡ member_insn opcode index }
 {
     match opcode {
-        178 => Insn::GetStatic(index),
-        179 => Insn::PutStatic(index),
-        180 => Insn::GetField(index),
-        181 => Insn::PutField(index),
-        182 => Insn::CallVirtual(index),
-        183 => Insn::CallSpecial(index),
+        GETSTATIC => Insn::GetStatic(index),
+        PUTSTATIC => Insn::PutStatic(index),
+        GETFIELD => Insn::GetField(index),
+        PUTFIELD => Insn::PutField(index),
+        INVOKEVIRTUAL => Insn::CallVirtual(index),
+        INVOKESPECIAL => Insn::CallSpecial(index),
         _ => Insn::CallStatic(index),
     }
 }
@@ -45,8 +49,8 @@ pub(crate) fn member(opcode: u8, operands: &[u8]) -> Result<(Insn, &[u8]), Fault
     ensures { Gives (λ x. (x.0, x.1.now)) result (member opcode operands.now) }
 {
     match opcode {
-        185 => call_interface(operands),
-        186 => Err(Fault::Unsupported(opcode)),
+        INVOKEINTERFACE => call_interface(operands),
+        INVOKEDYNAMIC => Err(Fault::Unsupported(opcode)),
         _ => {
             let (index, rest) = u2_at(operands)?;
             Ok((member_insn(opcode, index), rest))
@@ -60,9 +64,9 @@ fn class_insn(opcode: u8, index: u16) -> Insn
     ensures { result ≡ class_insn opcode index }
 {
     match opcode {
-        187 => Insn::New(index),
-        189 => Insn::NewRefArray(index),
-        192 => Insn::CheckCast(index),
+        NEW => Insn::New(index),
+        ANEWARRAY => Insn::NewRefArray(index),
+        CHECKCAST => Insn::CheckCast(index),
         _ => Insn::InstanceOf(index),
     }
 }
@@ -73,10 +77,10 @@ pub(crate) fn object(opcode: u8, operands: &[u8]) -> Result<(Insn, &[u8]), Fault
     ensures { Gives (λ x. (x.0, x.1.now)) result (object opcode operands.now) }
 {
     match opcode {
-        188 => new_array(operands),
-        190 => Ok((Insn::ArrayLength, operands)),
-        191 => Ok((Insn::Throw, operands)),
-        194..=195 => Err(Fault::Unsupported(opcode)),
+        NEWARRAY => new_array(operands),
+        ARRAYLENGTH => Ok((Insn::ArrayLength, operands)),
+        ATHROW => Ok((Insn::Throw, operands)),
+        MONITORENTER | MONITOREXIT => Err(Fault::Unsupported(opcode)),
         _ => {
             let (index, rest) = u2_at(operands)?;
             Ok((class_insn(opcode, index), rest))

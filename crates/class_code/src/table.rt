@@ -11,6 +11,10 @@ use crate::control::control;
 use crate::insn::Insn;
 use crate::local::{load, store};
 use crate::math::{conversion, math};
+use crate::opcode::{
+    ALOAD_3, ASTORE_3, DCMPG, IF_ACMPNE, IINC, INVOKEDYNAMIC, LDC2_W, MONITOREXIT, RETURN, SALOAD,
+    SASTORE, SWAP,
+};
 use crate::reference::{member, object};
 use crate::refusal::Fault;
 use crate::stack::stack_form;
@@ -23,18 +27,18 @@ fn by_opcode(alloc: Global, pc: u32, opcode: u8, operands: &[u8]) -> Result<(Ins
     ensures { Gives (λ x. (x.0, x.1.now)) result (by_opcode pc opcode operands.now) }
 {
     match opcode {
-        ..=20 => constant(opcode, operands),
-        ..=45 => load(opcode, operands),
-        ..=53 => array_load(opcode, operands),
-        ..=78 => store(opcode, operands),
-        ..=86 => array_store(opcode, operands),
-        ..=95 => Ok((Insn::Stack(stack_form(opcode)), operands)),
-        ..=132 => math(opcode, operands),
-        ..=152 => conversion(opcode, operands),
-        ..=166 => branch(pc, opcode, operands),
-        ..=177 => control(alloc, pc, opcode, operands),
-        ..=186 => member(opcode, operands),
-        ..=195 => object(opcode, operands),
+        ..=LDC2_W => constant(opcode, operands),
+        ..=ALOAD_3 => load(opcode, operands),
+        ..=SALOAD => array_load(opcode, operands),
+        ..=ASTORE_3 => store(opcode, operands),
+        ..=SASTORE => array_store(opcode, operands),
+        ..=SWAP => Ok((Insn::Stack(stack_form(opcode)), operands)),
+        ..=IINC => math(opcode, operands),
+        ..=DCMPG => conversion(opcode, operands),
+        ..=IF_ACMPNE => branch(pc, opcode, operands),
+        ..=RETURN => control(alloc, pc, opcode, operands),
+        ..=INVOKEDYNAMIC => member(opcode, operands),
+        ..=MONITOREXIT => object(opcode, operands),
         _ => extended(pc, opcode, operands),
     }
 }

@@ -6,6 +6,10 @@ ghost use Rattle.class_code.specs.Table.{wide_increment, widened, wide, goto_w, 
 
 use crate::branch::branch;
 use crate::insn::Insn;
+use crate::opcode::{
+    ALOAD, ASTORE, DLOAD, DSTORE, GOTO_W, IFNONNULL, IFNULL, IINC, ILOAD, ISTORE, JSR_W, LLOAD,
+    LSTORE, MULTIANEWARRAY, RET, WIDE,
+};
 use crate::operand::{far_target_at, i2_at, u1_at, u2_at};
 use crate::reference::multi_array;
 use crate::refusal::Fault;
@@ -27,24 +31,24 @@ fn widened(opcode: u8, operands: &[u8]) -> Result<(Insn, &[u8]), Fault>
     ensures { Gives (λ x. (x.0, x.1.now)) result (widened opcode operands.now) }
 {
     match opcode {
-        21 => {
+        ILOAD => {
             let (local, rest) = u2_at(operands)?;
             Ok((Insn::Load(ValueKind::Int, local), rest))
         }
-        25 => {
+        ALOAD => {
             let (local, rest) = u2_at(operands)?;
             Ok((Insn::Load(ValueKind::Ref, local), rest))
         }
-        54 => {
+        ISTORE => {
             let (local, rest) = u2_at(operands)?;
             Ok((Insn::Store(ValueKind::Int, local), rest))
         }
-        58 => {
+        ASTORE => {
             let (local, rest) = u2_at(operands)?;
             Ok((Insn::Store(ValueKind::Ref, local), rest))
         }
-        132 => wide_increment(operands),
-        22..=24 | 55..=57 | 169 => Err(Fault::Unsupported(opcode)),
+        IINC => wide_increment(operands),
+        LLOAD..=DLOAD | LSTORE..=DSTORE | RET => Err(Fault::Unsupported(opcode)),
         _ => Err(Fault::BadCode),
     }
 }
@@ -73,11 +77,11 @@ pub(crate) fn extended(pc: u32, opcode: u8, operands: &[u8]) -> Result<(Insn, &[
     ensures { Gives (λ x. (x.0, x.1.now)) result (extended pc opcode operands.now) }
 {
     match opcode {
-        196 => wide(operands),
-        197 => multi_array(operands),
-        198 | 199 => branch(pc, opcode, operands),
-        200 => goto_w(pc, operands),
-        201 => Err(Fault::Unsupported(opcode)),
+        WIDE => wide(operands),
+        MULTIANEWARRAY => multi_array(operands),
+        IFNULL | IFNONNULL => branch(pc, opcode, operands),
+        GOTO_W => goto_w(pc, operands),
+        JSR_W => Err(Fault::Unsupported(opcode)),
         _ => Err(Fault::BadCode),
     }
 }
