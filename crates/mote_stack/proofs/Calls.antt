@@ -351,3 +351,35 @@ pub record Called (i j : Inside) (stack : Stack) (header method ref_locals cell_
   pub used : j.used ≡ i.used
   pub count : j.count ≡ i.count
   pub long : length j.cells.items ≡ length i.cells.items
+
+-- the arguments of a caller are handed over to the frame that was laid
+pub called_next : (i j : Inside) (stack : Stack) (laid : List ℕ) (caller_base header method ref_locals cell_locals ref_args cell_args : ℕ) → IsRegion i → Seen i stack → KeepsFields i j → caller_base ≡ base_of i.bodies.items i.cells.items i.youngest
+    → ref_args ≤ ref_locals → cell_args ≤ cell_locals → i.used + ref_locals + cell_locals ≤ header
+    → ref_args ≤ length (youngest_frame stack).refs → cell_args ≤ length (youngest_frame stack).cells
+    → LaysFrame i.cells.items laid i.used header method ref_locals cell_locals → HandsOver laid j.cells.items i.youngest caller_base i.used header ref_args cell_args
+    → Called i j stack header method ref_locals cell_locals ref_args cell_args
+called_next i j stack laid caller_base header method ref_locals cell_locals ref_args cell_args is s keeps low less_refs less_cells room has_refs has_cells lays hands =
+    let P : ℕ → Type 0 = λ base. Passed j.cells.items (youngest_frame stack).refs (youngest_frame stack).cells base header method ref_locals cell_locals ref_args cell_args in
+    record {
+      becomes = caller_cut i j stack laid caller_base header method ref_locals cell_locals ref_args cell_args is s keeps low (omega (arith, room)) has_refs has_cells lays hands;
+      passed = subst P (sym keeps.used) (passed_next i stack laid j.cells.items caller_base header method ref_locals cell_locals ref_args cell_args s low less_refs less_cells room has_refs has_cells lays hands);
+      used = keeps.used;
+      count = keeps.count;
+      long = sym j.cells.ok.0 ∙ (keeps.len ∙ i.cells.ok.0);
+    }
+
+-- the first frame has no arguments
+pub called_first : (i j : Inside) (stack : Stack) (header method ref_locals cell_locals ref_args cell_args : ℕ) → stack_of i ≡ stack → IsRegion i → KeepsFields i j → i.count ≡ 0
+    → i.used + ref_locals + cell_locals ≤ header → ref_args ≤ length (youngest_frame stack).refs → cell_args ≤ length (youngest_frame stack).cells
+    → LaysFrame i.cells.items j.cells.items i.used header method ref_locals cell_locals
+    → Called i j stack header method ref_locals cell_locals ref_args cell_args
+called_first i j stack header method ref_locals cell_locals ref_args cell_args view is keeps none room has_refs has_cells lays =
+    let P : ℕ → Type 0 = λ base. Passed j.cells.items (youngest_frame stack).refs (youngest_frame stack).cells base header method ref_locals cell_locals ref_args cell_args in
+    let empty : length stack.frames ≡ 0 = count_of i stack view ∙ none in
+    record {
+      becomes = empty_becomes i j stack (calling_frame stack ref_args cell_args) view is keeps none;
+      passed = subst P (sym keeps.used) (passed_first i.cells.items j.cells.items (youngest_frame stack).refs (youngest_frame stack).cells i.used header method ref_locals cell_locals ref_args cell_args (omega (arith, no_refs stack empty, has_refs)) (omega (arith, no_cells stack empty, has_cells)) room lays);
+      used = keeps.used;
+      count = keeps.count;
+      long = sym j.cells.ok.0 ∙ (keeps.len ∙ i.cells.ok.0);
+    }

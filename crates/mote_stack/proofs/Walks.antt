@@ -1,12 +1,13 @@
 -- Walks from the youngest frame to the oldest, a step a frame.
 use Rattle.std.proofs.Common.{◌≡◌, ℕ, zero, suc, ◌+◌, ◌-◌, ◌<◌, ◌≤◌, Bool, true, false, nat_lt, if◌then◌else◌, List, ◌∷◌, ◌++◌, length, get_or, drop, refl, sym, ◌∙◌, ap, arith, length-append}
 use Rattle.std.proofs.lemmas.Bool.{lt-ltb, le-ltb}
-use Rattle.std.proofs.lemmas.List.{get_or_read, drop-drop}
-use Rattle.mote_stack.specs.Frames.{Frame}
+use Rattle.std.proofs.lemmas.List.{get_or_read, get_or-drop, drop-drop}
+use Rattle.mote_stack.specs.Frames.{Frame, Stack, no_frame, nth_frame}
 use Rattle.mote_stack.specs.Roots.{refs_of}
-use Rattle.mote_stack.specs.Layout.{body_of, base_of, ref_depth_of, frame_at, frames_below, AreFrames, root_position}
+use Rattle.mote_stack.specs.Layout.{body_of, base_of, ref_depth_of, frame_at, frames_below, AreFrames, root_position, stack_of}
+use Rattle.mote_stack.specs.declared.region.Region.TheInside.{Inside}
 use Rattle.mote_stack.proofs.Ranges.{length_up}
-use Rattle.mote_stack.proofs.Youngest.{Opened}
+use Rattle.mote_stack.proofs.Youngest.{frame_count_is, Opened, opened}
 
 -- what reads at a header give
 pub method_in : (bodies cells : List ℕ) (count top header at method index : ℕ) → Opened bodies cells count top header → header < length cells → at ≡ header → method ≡ get_or cells at method → index ≡ method → index < length bodies
@@ -87,3 +88,47 @@ position_here bodies cells count top header older base k view less low large =
     let same : length (refs_of (frames_below bodies cells older base)) ≡ below = rw (less, low) refl in
     let no : nat_lt k below ≡ false = le-ltb k below (omega arith) in
     position_step bodies cells count top header k view ∙ (ap (λ (t : Bool). if t then root_position bodies cells (count - 1) b k else b + (k - below)) no ∙ rw (less, low) refl)
+
+-- frame k is the youngest of those that are left below k frames
+pub nth_is : (i : Inside) (stack : Stack) (k end : ℕ) → stack_of i ≡ stack → k < length stack.frames → AreFrames i.bodies.items i.cells.items (i.count - k) end
+    → drop k (frames_below i.bodies.items i.cells.items i.count i.used) ≡ frames_below i.bodies.items i.cells.items (i.count - k) end
+    → (4 ≤ end) × (nth_frame stack k ≡ frame_at i.bodies.items i.cells.items (end - 4))
+nth_is i stack k end view asked are rest =
+    let all = frames_below i.bodies.items i.cells.items i.count i.used in
+    let many : length stack.frames ≡ i.count = ap (λ (s : Stack). length s.frames) (sym view) ∙ frame_count_is i.bodies.items i.cells.items i.count i.used in
+    let left = opened i.bodies.items i.cells.items (i.count - k) end (end - 4) are refl (omega arith) in
+    let last = left.header_last in
+    let index : k + 0 ≡ k = omega arith in (
+      omega arith,
+      sym (ap (λ (s : Stack). nth_frame s k) view) ∙ sym (ap (λ n. get_or all n no_frame) index) ∙ sym (get_or-drop k all 0 no_frame)
+          ∙ ap (λ (frames : List Frame). get_or frames 0 no_frame) (rest ∙ left.frames),
+    )
+
+-- a step of a walk past the youngest of so many frames, whose body and whose number of references were read
+pub record Passes (bodies cells : List ℕ) (count top older body depth : ℕ) : Type 0 where
+  pub view : Opened bodies cells count top (top - 4)
+  pub less : older ≡ count - 1
+  pub fits : body ≤ top - 4
+  pub short : depth ≤ body
+  pub low : top - 4 - body ≡ base_of bodies cells (top - 4)
+  pub next : length (refs_of (frames_below bodies cells count top)) ≡ length (refs_of (frames_below bodies cells older (top - 4 - body))) + depth
+
+pub passes : (bodies cells : List ℕ) (count top older depth_at depth at method index body : ℕ) → AreFrames bodies cells count top → 0 < count → top ≤ length cells → older ≡ count - 1
+    → depth_at ≡ top - 4 + 2 → depth ≡ get_or cells depth_at depth → at ≡ top - 4 → method ≡ get_or cells at method → index ≡ method → body ≡ get_or bodies index body
+    → Passes bodies cells count top older body depth
+passes bodies cells count top older depth_at depth at method index body are some within less depth_there depth_read there first same second =
+    let view = opened bodies cells count top (top - 4) are refl some in
+    let last = view.header_last in
+    let below = view.is.body_below in
+    let is : body ≡ body_of bodies cells (top - 4) = body_in bodies cells count top (top - 4) at method index body view (omega arith) there first same second in
+    let low : top - 4 - body ≡ base_of bodies cells (top - 4) = ap (λ b. top - 4 - b) is in
+    let fit = view.is.lists_fit in
+    let depth_is : depth ≡ ref_depth_of cells (top - 4) = depth_in cells (top - 4) depth_at depth (omega arith) depth_there depth_read in
+    record {
+      view = view;
+      less = less;
+      fits = omega arith;
+      short = omega arith;
+      low = low;
+      next = refs_next bodies cells count top (top - 4) older (top - 4 - body) depth view within less low depth_is;
+    }
