@@ -62,12 +62,6 @@ both_cut i stack two refs three cells view is less_refs less_cells at_two at_thr
     ⊎_elim
     (λ (some : 0 < i.count).
     let s = seen i stack view is (omega (arith, count_of i stack view)) in
-    let within = s.within in
-    let last = s.last in
-    let body_below = s.body_below in
-    let fit = s.lists_fit in
-    let refs_long = s.refs_long in
-    let cells_long = s.cells_long in
     let old = i.cells.items in
     let mid = set old two refs in
     let new = set mid three cells in
@@ -160,12 +154,6 @@ pub passed_next : (i : Inside) (stack : Stack) (laid new : List ℕ) (caller_bas
     → LaysFrame i.cells.items laid i.used header method ref_locals cell_locals → HandsOver laid new i.youngest caller_base i.used header ref_args cell_args
     → Passed new (youngest_frame stack).refs (youngest_frame stack).cells i.used header method ref_locals cell_locals ref_args cell_args
 passed_next i stack laid new caller_base header method ref_locals cell_locals ref_args cell_args s low less_refs less_cells room has_refs has_cells lays hands =
-    let within = s.within in
-    let last = s.last in
-    let body_below = s.body_below in
-    let fit = s.lists_fit in
-    let refs_long = s.refs_long in
-    let cells_long = s.cells_long in
     let y = i.youngest in
     let old = i.cells.items in
     let refs_same : get_or laid (y + 2) 0 ≡ get_or old (y + 2) 0 = lays.below (y + 2) (omega arith) in
@@ -189,12 +177,6 @@ pub caller_cut : (i j : Inside) (stack : Stack) (laid : List ℕ) (caller_base h
     → LaysFrame i.cells.items laid i.used header method ref_locals cell_locals → HandsOver laid j.cells.items i.youngest caller_base i.used header ref_args cell_args
     → Becomes j (with_youngest stack (calling_frame stack ref_args cell_args))
 caller_cut i j stack laid caller_base header method ref_locals cell_locals ref_args cell_args is s keeps low order has_refs has_cells lays hands =
-    let within = s.within in
-    let last = s.last in
-    let body_below = s.body_below in
-    let fit = s.lists_fit in
-    let refs_long = s.refs_long in
-    let cells_long = s.cells_long in
     let y = i.youngest in
     let old = i.cells.items in
     let refs = (youngest_frame stack).refs in
@@ -311,14 +293,11 @@ sizes i stack method at body view is known same read =
 -- the caller's body, read after the new frame was laid
 pub caller_method : (i : Inside) (stack : Stack) (laid : List ℕ) (header m rl cl at method index : ℕ) → Seen i stack → LaysFrame i.cells.items laid i.used header m rl cl → length laid ≡ length i.cells.items → at ≡ i.youngest → method ≡ get_or laid at method → index ≡ method → index ≡ get_or i.cells.items i.youngest 0
 caller_method i stack laid header m rl cl at method index s lays long there first same =
-    let within = s.within in
-    let last = s.last in
     same ∙ (get_or_read laid at method (omega arith) first 0 ∙ (ap (λ k. get_or laid k 0) there ∙ lays.below i.youngest (omega arith)))
 
 pub caller_body : (i : Inside) (stack : Stack) (laid : List ℕ) (header m rl cl at method index body : ℕ) → Seen i stack → LaysFrame i.cells.items laid i.used header m rl cl → length laid ≡ length i.cells.items → at ≡ i.youngest → method ≡ get_or laid at method → index ≡ method → body ≡ get_or i.bodies.items index body → body ≡ body_of i.bodies.items i.cells.items i.youngest
 caller_body i stack laid header m rl cl at method index body s lays long there first same second =
     let is = caller_method i stack laid header m rl cl at method index s lays long there first same in
-    let known = s.method_known in
     get_or_read i.bodies.items index body (omega arith) second 0 ∙ ap (λ k. get_or i.bodies.items k 0) is
 
 -- each frame takes four cells at least

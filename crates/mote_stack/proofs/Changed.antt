@@ -37,8 +37,6 @@ seen_so i is some =
     let view = opened i.bodies.items i.cells.items i.count i.used i.youngest is.in_frames is.header_last some in
     let within = is.within in
     let last = view.header_last in
-    let below = view.is.body_below in
-    let fit = view.is.lists_fit in
     let youngest : youngest_frame (stack_of i) ≡ frame_at i.bodies.items i.cells.items i.youngest =
     ap (λ fs. get_or fs 0 no_frame) view.frames in
     record {
@@ -69,9 +67,6 @@ seen i stack view is some =
 -- what reads of the header and of the table give
 pub body_read : (i : Inside) (stack : Stack) (at method index body : ℕ) → Seen i stack → at ≡ i.youngest → method ≡ get_or i.cells.items at method → index ≡ method → body ≡ get_or i.bodies.items index body → body ≡ body_of i.bodies.items i.cells.items i.youngest
 body_read i stack at method index body s there first same second =
-    let within = s.within in
-    let last = s.last in
-    let known = s.method_known in
     let cells = i.cells.items in
     let inside : at < length cells = omega arith in
     let read : method ≡ get_or cells i.youngest 0 = get_or_read cells at method inside first 0 ∙ ap (λ k. get_or cells k 0) there in
@@ -80,15 +75,11 @@ body_read i stack at method index body s there first same second =
 
 pub refs_read : (i : Inside) (stack : Stack) (at depth : ℕ) → Seen i stack → at ≡ i.youngest + 2 → depth ≡ get_or i.cells.items at depth → depth ≡ ref_depth_of i.cells.items i.youngest
 refs_read i stack at depth s there read =
-    let within = s.within in
-    let last = s.last in
     let inside : at < length i.cells.items = omega arith in
     get_or_read i.cells.items at depth inside read 0 ∙ ap (λ k. get_or i.cells.items k 0) there
 
 pub cells_read : (i : Inside) (stack : Stack) (at depth : ℕ) → Seen i stack → at ≡ i.youngest + 3 → depth ≡ get_or i.cells.items at depth → depth ≡ cell_depth_of i.cells.items i.youngest
 cells_read i stack at depth s there read =
-    let within = s.within in
-    let last = s.last in
     let inside : at < length i.cells.items = omega arith in
     get_or_read i.cells.items at depth inside read 0 ∙ ap (λ k. get_or i.cells.items k 0) there
 
@@ -144,7 +135,6 @@ written_so i j frame is s w =
     let header = i.youngest in
     let long : length new ≡ length old = sym j.cells.ok.0 ∙ (w.len ∙ i.cells.ok.0) in
     let within = s.within in
-    let last = s.last in
     let small = s.size_small in
     let agree : AgreeBelow old new (base_of bodies old header) = record { long = long; same = w.below } in
     let fit : ref_depth_of new header + cell_depth_of new header ≤ body_of bodies old header = rw (w.ref_depth, w.cell_depth) w.fits in
@@ -211,11 +201,6 @@ pub record WritesRefs (i j : Inside) (stack : Stack) (refs : List ℕ) : Type 0 
 
 pub refs_written : (i j : Inside) (stack : Stack) (refs : List ℕ) → IsRegion i → Seen i stack → KeepsFields i j → WritesRefs i j stack refs → Becomes j (with_refs stack refs)
 refs_written i j stack refs is s keeps w =
-    let within = s.within in
-    let last = s.last in
-    let body_below = s.body_below in
-    let fit = s.lists_fit in
-    let cells_long = s.cells_long in
     let fits = w.fits in
     written i j stack (record (youngest_frame stack) { refs = refs }) is s (record {
       bodies = keeps.bodies;
@@ -246,11 +231,6 @@ pub record WritesCells (i j : Inside) (stack : Stack) (cells : List ℕ) : Type 
 
 pub cells_written : (i j : Inside) (stack : Stack) (cells : List ℕ) → IsRegion i → Seen i stack → KeepsFields i j → WritesCells i j stack cells → Becomes j (with_cells stack cells)
 cells_written i j stack cells is s keeps w =
-    let within = s.within in
-    let last = s.last in
-    let body_below = s.body_below in
-    let fit = s.lists_fit in
-    let refs_long = s.refs_long in
     let fits = w.fits in
     written i j stack (record (youngest_frame stack) { cells = cells }) is s (record {
       bodies = keeps.bodies;

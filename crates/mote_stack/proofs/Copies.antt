@@ -30,9 +30,7 @@ pub dup_up : (i j : Inside) (stack : Stack) (mid two : List ℕ) (m n size s1 d1
     → Copies i.cells.items mid s1 d1 n1 → Copies mid two s2 d2 n2 → length two ≡ length i.cells.items
     → there ≡ i.youngest + 2 → depth ≡ size → j.cells.items ≡ set two there depth → MovesUp i j m n size
 dup_up i j stack mid two m n size s1 d1 n1 s2 d2 n2 there depth s fits grown room es1 ed1 en1 es2 ed2 en2 first second long et ed is =
-    let within = s.within in
     let last = s.last in
-    let body_below = s.body_below in
     let old = i.cells.items in
     let other : (k : ℕ) → k ≢ there → get_or j.cells.items k 0 ≡ get_or two k 0 =
     λ k ne. ap (λ xs. get_or xs k 0) is ∙ get_or-set_other two there k depth 0 ne in
@@ -53,9 +51,7 @@ pub dup_down : (i j : Inside) (stack : Stack) (mid two : List ℕ) (m n size s1 
     → Copies i.cells.items mid s1 d1 n1 → Copies mid two s2 d2 n2 → length two ≡ length i.cells.items
     → there ≡ i.youngest + 3 → depth ≡ size → j.cells.items ≡ set two there depth → MovesDown i j m n size
 dup_down i j stack mid two m n size s1 d1 n1 s2 d2 n2 there depth s fits grown room es1 ed1 en1 es2 ed2 en2 first second long et ed is =
-    let within = s.within in
     let last = s.last in
-    let body_below = s.body_below in
     let old = i.cells.items in
     let other : (k : ℕ) → k ≢ there → get_or j.cells.items k 0 ≡ get_or two k 0 =
     λ k ne. ap (λ xs. get_or xs k 0) is ∙ get_or-set_other two there k depth 0 ne in
@@ -75,10 +71,7 @@ pub drop_down : (i j : Inside) (stack : Stack) (mid : List ℕ) (above size s1 d
     → Copies i.cells.items mid s1 d1 n1 → length mid ≡ length i.cells.items
     → there ≡ i.youngest + 3 → depth ≡ size → j.cells.items ≡ set mid there depth → MovesDown i j above 1 size
 drop_down i j stack mid above size s1 d1 n1 there depth s fits less es1 ed1 en1 first long et ed is =
-    let within = s.within in
     let last = s.last in
-    let body_below = s.body_below in
-    let fit = s.lists_fit in
     let old = i.cells.items in
     let other : (k : ℕ) → k ≢ there → get_or j.cells.items k 0 ≡ get_or mid k 0 =
     λ k ne. ap (λ xs. get_or xs k 0) is ∙ get_or-set_other mid there k depth 0 ne in
@@ -96,8 +89,6 @@ pub swap_up : (i j : Inside) (stack : Stack) (m n size start end by : ℕ) → S
     → start + (m + n) ≡ end → end ≡ base_of i.bodies.items i.cells.items i.youngest + ref_depth_of i.cells.items i.youngest → by ≡ n
     → Rotates i.cells.items j.cells.items start end by → MovesUp i j m n size
 swap_up i j stack m n size start end by s fits same es ee eb r =
-    let body_below = s.body_below in
-    let fit = s.lists_fit in
     let old = i.cells.items in
     record {
       same = λ k h. r.outside_below k (omega arith);
@@ -113,8 +104,6 @@ pub swap_down : (i j : Inside) (stack : Stack) (m n size start end by : ℕ) →
     → start + (m + n) ≡ end → start + cell_depth_of i.cells.items i.youngest ≡ i.youngest → by ≡ m
     → Rotates i.cells.items j.cells.items start end by → MovesDown i j m n size
 swap_down i j stack m n size start end by s fits same es ee eb r =
-    let body_below = s.body_below in
-    let fit = s.lists_fit in
     let old = i.cells.items in
     record {
       same = λ k h ne. r.outside_above k (omega arith);

@@ -15,9 +15,6 @@ put i at v = record i { cells = with_item i.cells at v }
 pub pc_written : (i : Inside) (stack : Stack) (at pc : ℕ) → IsRegion i → Seen i stack → at ≡ i.youngest + 1
     → Becomes (put i at pc) (with_youngest stack (record (youngest_frame stack) { pc = pc }))
 pc_written i stack at pc is s place =
-    let within = s.within in
-    let last = s.last in
-    let body_below = s.body_below in
     let fit = s.lists_fit in
     let old = i.cells.items in
     let inside : at < length old = omega arith in
@@ -63,13 +60,6 @@ pub ref_pushed : (i : Inside) (stack : Stack) (at v there depth : ℕ) → IsReg
     → there ≡ i.youngest + 2 → depth ≡ ref_depth_of i.cells.items i.youngest + 1
     → Becomes (put (put i at v) there depth) (with_refs stack ((youngest_frame stack).refs ++ v ∷ []))
 ref_pushed i stack at v there depth is s free place header more =
-    let within = s.within in
-    let last = s.last in
-    let body_below = s.body_below in
-    let body_is = s.body_is in
-    let fit = s.lists_fit in
-    let refs_long = s.refs_long in
-    let cells_long = s.cells_long in
     let old = i.cells.items in
     let refs = (youngest_frame stack).refs in
     let pushed : length (refs ++ v ∷ []) ≡ length refs + 1 = length-append refs (v ∷ []) in
@@ -97,13 +87,6 @@ pub cell_pushed : (i : Inside) (stack : Stack) (at v there depth : ℕ) → IsRe
     → there ≡ i.youngest + 3 → depth ≡ cell_depth_of i.cells.items i.youngest + 1
     → Becomes (put (put i at v) there depth) (with_cells stack ((youngest_frame stack).cells ++ v ∷ []))
 cell_pushed i stack at v there depth is s free place header more =
-    let within = s.within in
-    let last = s.last in
-    let body_below = s.body_below in
-    let body_is = s.body_is in
-    let fit = s.lists_fit in
-    let refs_long = s.refs_long in
-    let cells_long = s.cells_long in
     let old = i.cells.items in
     let nums = (youngest_frame stack).cells in
     let pushed : length (nums ++ v ∷ []) ≡ length nums + 1 = length-append nums (v ∷ []) in
@@ -129,13 +112,6 @@ pub ref_set : (i : Inside) (stack : Stack) (at n v : ℕ) → IsRegion i → See
     → at ≡ base_of i.bodies.items i.cells.items i.youngest + n
     → Becomes (put i at v) (with_refs stack (set (youngest_frame stack).refs n v))
 ref_set i stack at n v is s there place =
-    let within = s.within in
-    let last = s.last in
-    let body_below = s.body_below in
-    let body_is = s.body_is in
-    let fit = s.lists_fit in
-    let refs_long = s.refs_long in
-    let cells_long = s.cells_long in
     let old = i.cells.items in
     let refs = (youngest_frame stack).refs in
     let inside : at < length old = omega arith in
@@ -158,13 +134,6 @@ pub cell_set : (i : Inside) (stack : Stack) (at n v : ℕ) → IsRegion i → Se
     → at ≡ i.youngest - 1 - n
     → Becomes (put i at v) (with_cells stack (set (youngest_frame stack).cells n v))
 cell_set i stack at n v is s there place =
-    let within = s.within in
-    let last = s.last in
-    let body_below = s.body_below in
-    let body_is = s.body_is in
-    let fit = s.lists_fit in
-    let refs_long = s.refs_long in
-    let cells_long = s.cells_long in
     let old = i.cells.items in
     let nums = (youngest_frame stack).cells in
     let inside : at < length old = omega arith in
@@ -186,13 +155,6 @@ pub refs_cut : (i : Inside) (stack : Stack) (there depth cut : ℕ) → IsRegion
     → there ≡ i.youngest + 2
     → Becomes (put i there depth) (with_refs stack (take cut (youngest_frame stack).refs))
 refs_cut i stack there depth cut is s same less header =
-    let within = s.within in
-    let last = s.last in
-    let body_below = s.body_below in
-    let body_is = s.body_is in
-    let fit = s.lists_fit in
-    let refs_long = s.refs_long in
-    let cells_long = s.cells_long in
     let old = i.cells.items in
     let refs = (youngest_frame stack).refs in
     let long : length (take cut refs) ≡ cut = length-take-le cut refs less in
@@ -211,13 +173,6 @@ pub cells_cut : (i : Inside) (stack : Stack) (there depth cut : ℕ) → IsRegio
     → there ≡ i.youngest + 3
     → Becomes (put i there depth) (with_cells stack (take cut (youngest_frame stack).cells))
 cells_cut i stack there depth cut is s same less header =
-    let within = s.within in
-    let last = s.last in
-    let body_below = s.body_below in
-    let body_is = s.body_is in
-    let fit = s.lists_fit in
-    let refs_long = s.refs_long in
-    let cells_long = s.cells_long in
     let old = i.cells.items in
     let nums = (youngest_frame stack).cells in
     let long : length (take cut nums) ≡ cut = length-take-le cut nums less in

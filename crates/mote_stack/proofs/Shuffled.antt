@@ -107,12 +107,6 @@ pub record MovesUp (i j : Inside) (m n size : ℕ) : Type 0 where
 pub refs_shuffled : (i j : Inside) (stack : Stack) (result : List ℕ) (m n size : ℕ) → IsRegion i → Seen i stack → KeepsFields i j → Shuffled (youngest_frame stack).refs result m n → length result ≡ size → size + length (youngest_frame stack).cells ≤ body_of i.bodies.items i.cells.items i.youngest → MovesUp i j m n size
     → Becomes j (with_refs stack result)
 refs_shuffled i j stack result m n size is s keeps to long room w =
-    let within = s.within in
-    let last = s.last in
-    let body_below = s.body_below in
-    let fit = s.lists_fit in
-    let refs_long = s.refs_long in
-    let cells_long = s.cells_long in
     let there = to.there in
     let short = to.short in
     let bound = to.bound in
@@ -147,12 +141,6 @@ pub record MovesDown (i j : Inside) (m n size : ℕ) : Type 0 where
 pub cells_shuffled : (i j : Inside) (stack : Stack) (result : List ℕ) (m n size : ℕ) → IsRegion i → Seen i stack → KeepsFields i j → Shuffled (youngest_frame stack).cells result m n → length result ≡ size → length (youngest_frame stack).refs + size ≤ body_of i.bodies.items i.cells.items i.youngest → MovesDown i j m n size
     → Becomes j (with_cells stack result)
 cells_shuffled i j stack result m n size is s keeps to long room w =
-    let within = s.within in
-    let last = s.last in
-    let body_below = s.body_below in
-    let fit = s.lists_fit in
-    let refs_long = s.refs_long in
-    let cells_long = s.cells_long in
     let there = to.there in
     let short = to.short in
     let bound = to.bound in

@@ -12,7 +12,6 @@ use Rattle.mote_stack.proofs.Youngest.{frame_count_is, Opened, opened}
 -- what reads at a header give
 pub method_in : (bodies cells : List ℕ) (count top header at method index : ℕ) → Opened bodies cells count top header → header < length cells → at ≡ header → method ≡ get_or cells at method → index ≡ method → index < length bodies
 method_in bodies cells count top header at method index view inside there first same =
-    let known = view.is.method_known in
     let read : method ≡ get_or cells header 0 = get_or_read cells at method (omega arith) first 0 ∙ ap (λ k. get_or cells k 0) there in
     omega arith
 
@@ -41,9 +40,6 @@ drop_next bodies cells count top header older base step all view less low so_far
 pub refs_next : (bodies cells : List ℕ) (count top header older base depth : ℕ) → Opened bodies cells count top header → top ≤ length cells → older ≡ count - 1 → base ≡ base_of bodies cells header → depth ≡ ref_depth_of cells header
     → length (refs_of (frames_below bodies cells count top)) ≡ length (refs_of (frames_below bodies cells older base)) + depth
 refs_next bodies cells count top header older base depth view within less low is =
-    let below = view.is.body_below in
-    let fit = view.is.lists_fit in
-    let last = view.header_last in
     let up : length (frame_at bodies cells header).refs ≡ ref_depth_of cells header = length_up cells (base_of bodies cells header) (ref_depth_of cells header) (omega arith) in
     let all : length (refs_of (frames_below bodies cells count top)) ≡ length (refs_of (frames_below bodies cells older base) ++ (frame_at bodies cells header).refs) =
     ap (λ fs. length (refs_of fs)) (list_next bodies cells count top header older base view less low) in
@@ -55,8 +51,6 @@ refs_bound bodies cells zero top within are = omega arith
 refs_bound bodies cells (suc older) top within are =
     let base = base_of bodies cells (top - 4) in
     let deep = are.0 in
-    let below = are.1.body_below in
-    let fit = are.1.lists_fit in
     let rest = refs_bound bodies cells older base (omega arith) are.2 in
     let up : length (frame_at bodies cells (top - 4)).refs ≡ ref_depth_of cells (top - 4) = length_up cells base (ref_depth_of cells (top - 4)) (omega arith) in
     let all : length (refs_of (frames_below bodies cells older base) ++ (frame_at bodies cells (top - 4)).refs) ≡ length (refs_of (frames_below bodies cells older base)) + length (frame_at bodies cells (top - 4)).refs =
@@ -68,7 +62,6 @@ position_step : (bodies cells : List ℕ) (count top header k : ℕ) → Opened 
     → root_position bodies cells count top k ≡ (let base = base_of bodies cells header in let below = length (refs_of (frames_below bodies cells (count - 1) base)) in if nat_lt k below then root_position bodies cells (count - 1) base k else base + (k - below))
 position_step bodies cells zero top header k view = absurd (omega (arith, view.some))
 position_step bodies cells (suc older) top header k view =
-    let last = view.header_last in
     let at : top - 4 ≡ header = omega arith in
     let less : suc older - 1 ≡ older = omega arith in
     rw (at, less) refl
@@ -97,7 +90,6 @@ nth_is i stack k end view asked are rest =
     let all = frames_below i.bodies.items i.cells.items i.count i.used in
     let many : length stack.frames ≡ i.count = ap (λ (s : Stack). length s.frames) (sym view) ∙ frame_count_is i.bodies.items i.cells.items i.count i.used in
     let left = opened i.bodies.items i.cells.items (i.count - k) end (end - 4) are refl (omega arith) in
-    let last = left.header_last in
     let index : k + 0 ≡ k = omega arith in (
       omega arith,
       sym (ap (λ (s : Stack). nth_frame s k) view) ∙ sym (ap (λ n. get_or all n no_frame) index) ∙ sym (get_or-drop k all 0 no_frame)
@@ -118,11 +110,8 @@ pub passes : (bodies cells : List ℕ) (count top older depth_at depth at method
     → Passes bodies cells count top older body depth
 passes bodies cells count top older depth_at depth at method index body are some within less depth_there depth_read there first same second =
     let view = opened bodies cells count top (top - 4) are refl some in
-    let last = view.header_last in
-    let below = view.is.body_below in
     let is : body ≡ body_of bodies cells (top - 4) = body_in bodies cells count top (top - 4) at method index body view (omega arith) there first same second in
     let low : top - 4 - body ≡ base_of bodies cells (top - 4) = ap (λ b. top - 4 - b) is in
-    let fit = view.is.lists_fit in
     let depth_is : depth ≡ ref_depth_of cells (top - 4) = depth_in cells (top - 4) depth_at depth (omega arith) depth_there depth_read in
     record {
       view = view;

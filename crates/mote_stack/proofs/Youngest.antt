@@ -19,7 +19,6 @@ used_is bodies cells zero top are = sym are
 used_is bodies cells (suc older) top are =
     let rest = used_is bodies cells older (base_of bodies cells (top - 4)) are.2 in
     let deep = are.0 in
-    let below = are.1.body_below in
     omega (arith, rest, sum_by-cons cells_of (frame_at bodies cells (top - 4)) (frames_below bodies cells older (base_of bodies cells (top - 4))))
 
 -- two memories of one length that agree below a place
@@ -65,8 +64,6 @@ pub frame_is : (bodies cells : List ℕ) (header : ℕ) (frame : Frame) → head
     → ((k : ℕ) → k < length frame.cells → get_or cells (header - 1 - k) 0 ≡ get_or frame.cells k 0)
     → frame_at bodies cells header ≡ frame
 frame_is bodies cells header frame within is method pc body refs_long cells_long refs nums =
-    let below = is.body_below in
-    let fit = is.lists_fit in
     let up : slice_range cells (base_of bodies cells header) (base_of bodies cells header + ref_depth_of cells header) ≡ frame.refs =
     read_up cells frame.refs (base_of bodies cells header) (ref_depth_of cells header) (omega arith) (sym refs_long) (λ k h. refs k (omega arith)) in
     let down : reverse (slice_range cells (header - cell_depth_of cells header) header) ≡ frame.cells =
@@ -80,8 +77,6 @@ same_frame bodies old new header within agree is =
     let pc : get_or new (header + 1) 0 ≡ get_or old (header + 1) 0 = agree.same (header + 1) (omega arith) in
     let refs : get_or new (header + 2) 0 ≡ get_or old (header + 2) 0 = agree.same (header + 2) (omega arith) in
     let cells : get_or new (header + 3) 0 ≡ get_or old (header + 3) 0 = agree.same (header + 3) (omega arith) in
-    let below = is.body_below in
-    let fit = is.lists_fit in
     let body : body_of bodies new header ≡ body_of bodies old header = ap (λ m. get_or bodies m 0) method in
     let base : base_of bodies new header ≡ base_of bodies old header = ap (λ b. header - b) body in
     let long = agree.long in
@@ -171,8 +166,6 @@ frames_fit bodies cells zero top within are = All-nil (IsFrame bodies)
 frames_fit bodies cells (suc older) top within are =
     let header = top - 4 in
     let deep = are.0 in
-    let below = are.1.body_below in
-    let fit = are.1.lists_fit in
     let up : length (frame_at bodies cells header).refs ≡ ref_depth_of cells header = length_up cells (base_of bodies cells header) (ref_depth_of cells header) (omega arith) in
     let down : length (frame_at bodies cells header).cells ≡ cell_depth_of cells header = length_down cells header (cell_depth_of cells header) (omega arith) (omega arith) in
     let here : IsFrame bodies (frame_at bodies cells header) = record { method_known = are.1.method_known; body_is = refl; lists_fit = omega arith } in

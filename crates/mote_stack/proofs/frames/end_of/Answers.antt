@@ -7,16 +7,12 @@ use Rattle.mote_stack.proofs.frames.end_of.Goals as goal
 pub index-requires-in-loop-step : goal.index-requires-in-loop-step
 index-requires-in-loop-step c =
     let view = opened c.args.bodies.now.items c.args.cells.now.items (c.args.count - c.loop-step._step) c.loop-step.end (c.loop-step.end - 4) c.loop-step.invariant.frames (omega arith) (omega arith) in
-    let last = view.header_last in
-    let long = c.args.bodies.now.ok.0 in
     let known = method_in c.args.bodies.now.items c.args.cells.now.items (c.args.count - c.loop-step._step) c.loop-step.end (c.loop-step.end - 4) c.from.result c.index.result.now c.from-in-loop-step.result view (omega arith) c.from.ensures c.index.ensures c.from-in-loop-step.ensures in
     omega arith
 
 pub overflow_sub-end : goal.overflow_sub-end
 overflow_sub-end c =
     let view = opened c.args.bodies.now.items c.args.cells.now.items (c.args.count - c.loop-step._step) c.loop-step.end (c.loop-step.end - 4) c.loop-step.invariant.frames (omega arith) (omega arith) in
-    let last = view.header_last in
-    let below = view.is.body_below in
     let body = body_in c.args.bodies.now.items c.args.cells.now.items (c.args.count - c.loop-step._step) c.loop-step.end (c.loop-step.end - 4) c.from.result c.index.result.now c.from-in-loop-step.result c.index-in-loop-step.result.now view (omega arith) c.from.ensures c.index.ensures c.from-in-loop-step.ensures c.index-in-loop-step.ensures in
     omega arith
 
@@ -27,7 +23,6 @@ loop-step-preserved c =
     let count = c.args.count - c.loop-step._step in
     let end = c.loop-step.end in
     let view = opened bodies cells count end (end - 4) c.loop-step.invariant.frames (omega arith) (omega arith) in
-    let last = view.header_last in
     let body = body_in bodies cells count end (end - 4) c.from.result c.index.result.now c.from-in-loop-step.result c.index-in-loop-step.result.now view (omega arith) c.from.ensures c.index.ensures c.from-in-loop-step.ensures c.index-in-loop-step.ensures in
     let base = end - 4 - c.index-in-loop-step.result.now in
     let older = c.args.count - (c.loop-step._step + 1) in

@@ -6,19 +6,8 @@ use Rattle.mote_stack.proofs.frames.hand_over.Goals as goal
 pub returns-clause-handed : goal.returns-clause-handed
 returns-clause-handed c =
     let old = c.args.cells.now.items in
-    let above = c.requires.caller in
-    let room = c.requires.room in
-    let within = c.requires.within in
-    let halves = c.requires.halves in
-    let has_refs = c.requires.ref_args in
-    let has_cells = c.requires.cell_args in
     let refs = get_or_read old (c.args.caller + 2) c.index.result.now (omega arith) c.index.ensures 0 in
     let nums = get_or_read old (c.args.caller + 3) c.index-2.result.now (omega arith) c.index-2.ensures 0 in
-    let from = c.from.ensures in
-    let from2 = c.from-2.ensures in
-    let from3 = c.from-3.ensures in
-    let from4 = c.from-4.ensures in
-    let from5 = c.from-5.ensures in
     let first = c.args.caller_base + c.from.result in
     let last = c.args.caller - c.from-2.result in
     handed_over old c.copy_within.new.self.items c.copy_within-2.new.self.items c.args.caller c.args.caller_base c.args.base c.args.header c.args.ref_args c.args.cell_args

@@ -30,8 +30,4 @@ laid old mid base header method refs nums order within below zeros =
 
 pub returns-clause-laid : goal.returns-clause-laid
 returns-clause-laid c =
-    let now = c.loop-at.cells.ok.0 in
-    let before = c.args.cells.now.ok.0 in
-    let len = c.loop-at.invariant.len in
-    let within = c.requires.within in
     laid c.args.cells.now.items c.loop-at.cells.items c.args.base c.args.header c.args.method c.args.ref_locals c.args.cell_locals c.requires.order (omega arith) c.loop-at.invariant.below (λ k h g. c.loop-at.invariant.zeros k h (omega (arith, g)))

@@ -18,11 +18,7 @@ index-requires-in-loop-step-2 c =
     let count = c.args.count - c.loop-step._step in
     let end = c.loop-step.end in
     let view = opened bodies cells count end (end - 4) c.loop-step.invariant.frames (omega arith) (omega arith) in
-    let last = view.header_last in
-    let within = c.requires.within in
-    let so_far = c.loop-step.invariant.within in
     let known = method_in bodies cells count end (end - 4) c.from-in-loop-step.result c.index-in-loop-step.result.now c.from-in-loop-step-2.result view (omega arith) c.from-in-loop-step.ensures c.index-in-loop-step.ensures c.from-in-loop-step-2.ensures in
-    let long = c.args.bodies.now.ok.0 in
     omega arith
 
 -- the frame that a step passes
@@ -36,9 +32,6 @@ is_passed c =
     let count = c.args.count - c.loop-step._step in
     let end = c.loop-step.end in
     let view = opened bodies cells count end (end - 4) c.loop-step.invariant.frames (omega arith) (omega arith) in
-    let last = view.header_last in
-    let within = c.requires.within in
-    let so_far = c.loop-step.invariant.within in
     passes bodies cells count end (c.args.count - (c.loop-step._step + 1)) (c.from.result + 2) c.index.result.now c.from-in-loop-step.result c.index-in-loop-step.result.now c.from-in-loop-step-2.result c.index-in-loop-step-2.result.now
     c.loop-step.invariant.frames (omega arith) (omega arith) (omega arith) (ap (λ n. n + 2) c.from.ensures) c.index.ensures c.from-in-loop-step.ensures c.index-in-loop-step.ensures c.from-in-loop-step-2.ensures c.index-in-loop-step-2.ensures
 
@@ -60,28 +53,13 @@ returns-then-rest-depth-clause-value c =
     let passed = is_passed (goal.at.returns-then-rest-depth-clause-value c).After-index-in-loop-step-2 in
     let base = end - 4 - c.index-in-loop-step-2.result.now in
     let older = c.args.count - (c.loop-step._step + 1) in
-    let next = passed.next in
-    let fits = passed.fits in
-    let depth_as = c.from-depth.ensures in
-    let rest = c.loop-step.invariant.rest in
-    let asked = c.loop-step.invariant.there in
     let here = position_here bodies cells count end (end - 4) older base c.args.k passed.view passed.less passed.low (omega (arith, c.if-rest-depth.true)) in
-    let from = c.from-then-rest-depth.ensures in
     let sum : c.from-then-rest-depth.result + (c.args.k - (c.loop-step.rest - c.from-depth.result)) ≡ base + (c.args.k - length (refs_of (frames_below bodies cells older base))) = omega arith in
     sum ∙ (sym here ∙ c.loop-step.invariant.value)
 
 pub returns-then-rest-depth-clause-within : goal.returns-then-rest-depth-clause-within
 returns-then-rest-depth-clause-within c =
     let passed = is_passed (goal.at.returns-then-rest-depth-clause-within c).After-index-in-loop-step-2 in
-    let last = passed.view.header_last in
-    let fits = passed.fits in
-    let short = passed.short in
-    let next = passed.next in
-    let so_far = c.loop-step.invariant.within in
-    let depth_as = c.from-depth.ensures in
-    let rest = c.loop-step.invariant.rest in
-    let asked = c.loop-step.invariant.there in
-    let from = c.from-then-rest-depth.ensures in
     omega (arith, c.if-rest-depth.true)
 
 pub loop-step-preserved : goal.loop-step-preserved
@@ -93,11 +71,7 @@ loop-step-preserved c =
     let passed = is_passed (goal.at.loop-step-preserved c).After-index-in-loop-step-2 in
     let base = end - 4 - c.index-in-loop-step-2.result.now in
     let older = c.args.count - (c.loop-step._step + 1) in
-    let next = passed.next in
-    let depth_as = c.from-depth.ensures in
-    let so_far = c.loop-step.invariant.within in
     let rest = c.loop-step.invariant.rest in
-    let asked = c.loop-step.invariant.there in
     record {
       frames = frames_next bodies cells count end (end - 4) older base passed.view passed.less passed.low;
       rest = omega arith;

@@ -18,7 +18,6 @@ pub copy_within-requires-2-clause-dest_in_bounds : goal.copy_within-requires-2-c
 copy_within-requires-2-clause-dest_in_bounds c =
     let s = seen c.self.inside c.args.self.now c.self.view_is c.self.invariant (some_of_cell c.args.self.now 0 (omega (arith, c.requires.some, c.requires.there))) in
     let depth = cells_read c.self.inside c.args.self.now (c.from-header.result + 3) c.index-depth.result.now s (ap (λ n. n + 3) c.from-header.ensures) c.index-depth.ensures in
-    let kept = c.copy_within.ensures.len in
     omega arith
 
 pub overflow_add-depth : goal.overflow_add-depth

@@ -13,7 +13,6 @@ copy_within-requires-2-clause-in_bounds c =
     let s = seen c.self.inside c.args.self.now c.self.view_is c.self.invariant (some_of_ref c.args.self.now 0 (omega (arith, c.requires.some, c.requires.there))) in
     let body = body_read c.self.inside c.args.self.now c.from-header.result c.index.result.now c.from.result c.index-body.result.now s c.from-header.ensures c.index.ensures c.from.ensures c.index-body.ensures in
     let depth = refs_read c.self.inside c.args.self.now (c.from-header.result + 2) c.index-depth.result.now s (ap (λ n. n + 2) c.from-header.ensures) c.index-depth.ensures in
-    let kept = c.copy_within.ensures.len in
     omega arith
 
 pub copy_within-requires-2-clause-dest_in_bounds : goal.copy_within-requires-2-clause-dest_in_bounds
@@ -21,7 +20,6 @@ copy_within-requires-2-clause-dest_in_bounds c =
     let s = seen c.self.inside c.args.self.now c.self.view_is c.self.invariant (some_of_ref c.args.self.now 0 (omega (arith, c.requires.some, c.requires.there))) in
     let body = body_read c.self.inside c.args.self.now c.from-header.result c.index.result.now c.from.result c.index-body.result.now s c.from-header.ensures c.index.ensures c.from.ensures c.index-body.ensures in
     let depth = refs_read c.self.inside c.args.self.now (c.from-header.result + 2) c.index-depth.result.now s (ap (λ n. n + 2) c.from-header.ensures) c.index-depth.ensures in
-    let kept = c.copy_within.ensures.len in
     omega arith
 
 pub overflow_add-depth : goal.overflow_add-depth

@@ -14,8 +14,6 @@ returns-clause-holds c =
     let is = c.self.invariant in
     let long = i.cells.ok.0 in
     let within = is.within in
-    let large = is.size_large in
-    let small = is.size_small in
     let used = used_is i.bodies.items i.cells.items i.count i.used is.in_frames in
     subst (λ s. IsStack s) c.self.view_is (record {
       size_large = omega arith;

@@ -6,15 +6,6 @@ use Rattle.mote_stack.proofs.region.Region.int_at.Goals as goal
 pub returns : goal.returns
 returns c =
     let s = seen c.self.inside c.args.self.now c.self.view_is c.self.invariant (some_of_cell c.args.self.now c.args.n c.requires) in
-    let fit = s.lists_fit in
-    let below = s.body_below in
-    let within = s.within in
-    let last = s.last in
-    let refs_long = s.refs_long in
-    let cells_long = s.cells_long in
-    let asked = c.requires in
-    let header = c.from.ensures in
-    let n = c.from-2.ensures in
     let at : c.from.result - 1 - c.from-2.result ≡ c.self.inside.youngest - 1 - c.args.n = omega arith in
     get_or_read c.self.inside.cells.items (c.from.result - 1 - c.from-2.result) c.index.result.now (omega arith) c.index.ensures 0
     ∙ (ap (λ k. get_or c.self.inside.cells.items k 0) at ∙ sym (s.cells_at c.args.n (omega arith)))

@@ -18,10 +18,6 @@ returns c =
     let cells = c.self.inside.cells.items in
     let end = c.end_of-end.result in
     let nth = nth_is c.self.inside c.args.self.now c.args.k end c.self.view_is c.requires c.end_of-end.ensures.frames c.end_of-end.ensures.rest in
-    let deep = nth.0 in
-    let from = c.from.ensures in
-    let within = c.self.invariant.within in
-    let ended = c.end_of-end.ensures.within in
     let at : c.from.result - 3 ≡ end - 4 + 1 = omega arith in
     get_or_read cells (c.from.result - 3) c.index.result.now (omega arith) c.index.ensures 0
     ∙ (ap (λ i. get_or cells i 0) at ∙ sym (ap (λ (f : Frame). f.pc) nth.1))

@@ -8,7 +8,6 @@ invariant_of-self c =
     let s = seen c.self.inside c.args.self.now c.self.view_is c.self.invariant (some_of_free c.args.self.now 0 c.requires) in
     let header = c.from-header.ensures in
     let depth = cells_read c.self.inside c.args.self.now (c.from-header.result + 3) c.index-depth.result.now s (ap (λ n. n + 3) c.from-header.ensures) c.index-depth.ensures in
-    let depth_as = c.from.ensures in
     (cell_pushed c.self.inside c.args.self.now (c.from-header.result - 1 - c.from.result) c.args.v (c.from-header.result + 3) (c.index-depth.result.now + 1) c.self.invariant s c.requires (omega arith) (omega arith) (omega arith)).1
 
 pub returns : goal.returns
@@ -16,5 +15,4 @@ returns c =
     let s = seen c.self.inside c.args.self.now c.self.view_is c.self.invariant (some_of_free c.args.self.now 0 c.requires) in
     let header = c.from-header.ensures in
     let depth = cells_read c.self.inside c.args.self.now (c.from-header.result + 3) c.index-depth.result.now s (ap (λ n. n + 3) c.from-header.ensures) c.index-depth.ensures in
-    let depth_as = c.from.ensures in
     (cell_pushed c.self.inside c.args.self.now (c.from-header.result - 1 - c.from.result) c.args.v (c.from-header.result + 3) (c.index-depth.result.now + 1) c.self.invariant s c.requires (omega arith) (omega arith) (omega arith)).0

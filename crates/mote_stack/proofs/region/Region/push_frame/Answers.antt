@@ -24,14 +24,6 @@ returns-then-used-need c =
     let i = c.self.inside in
     let stack = c.args.self.now in
     let z = sizes i stack c.args.method c.from.result c.index-body.result.now c.self.view_is c.self.invariant c.requires.method c.from.ensures c.index-body.ensures in
-    let in_use = z.in_use in
-    let size = z.size in
-    let body_is = z.body_is in
-    let size_long = z.long in
-    let need_as = c.from-need.ensures in
-    let used_as = c.from-used.ensures in
-    let len = c.len.ensures in
-    let over = c.if-used-need.true in
     let need : c.from-need.result + 4 ≡ frame_need stack c.args.method = omega arith in
     let used : c.from-used.result ≡ cells_in_use stack = omega arith in
     (omega arith, wanted (c.from-need.result + 4) (frame_need stack c.args.method) c.from-used.result (cells_in_use stack) need used, refl)
@@ -41,28 +33,13 @@ index-requires-then-self-gt0 c =
     let i = c.self.inside in
     let stack = c.args.self.now in
     let z = sizes i stack c.args.method c.from.result c.index-body.result.now c.self.view_is c.self.invariant c.requires.method c.from.ensures c.index-body.ensures in
-    let in_use = z.in_use in
-    let size = z.size in
-    let body_is = z.body_is in
-    let size_long = z.long in
-    let need_as = c.from-need.ensures in
-    let used_as = c.from-used.ensures in
-    let len = c.len.ensures in
     let s = seen i stack c.self.view_is c.self.invariant (omega (arith, count_of i stack c.self.view_is, c.if-self-gt0.true)) in
-    let within = s.within in
-    let last = s.last in
-    let body_below = s.body_below in
-    let fit = s.lists_fit in
-    let refs_long = s.refs_long in
-    let cells_long = s.cells_long in
     let base_as = c.from-base.ensures in
-    let body_as = c.from-2.ensures in
     let header = c.from-base.result + c.from-2.result in
     let laid_long : length c.lay_frame.new.cells.items ≡ length i.cells.items = sym c.lay_frame.new.cells.ok.0 ∙ (c.lay_frame.ensures.len ∙ i.cells.ok.0) in
     let Lays : ℕ → Type 0 = λ b. LaysFrame i.cells.items c.lay_frame.new.cells.items b header c.args.method c.args.ref_locals c.args.cell_locals in
     let lays : Lays i.used = subst Lays base_as c.lay_frame.ensures.laid in
     let method = caller_method i stack c.lay_frame.new.cells.items header c.args.method c.args.ref_locals c.args.cell_locals c.from-caller.result c.index.result.now c.from-then-self-gt0.result s lays laid_long c.from-caller.ensures c.index.ensures c.from-then-self-gt0.ensures in
-    let known = s.method_known in
     let table = i.bodies.ok.0 in
     omega arith
 
@@ -79,34 +56,17 @@ has_arguments c =
     let i = c.self.inside in
     let stack = c.args.self.now in
     let z = sizes i stack c.args.method c.from.result c.index-body.result.now c.self.view_is c.self.invariant c.requires.method c.from.ensures c.index-body.ensures in
-    let in_use = z.in_use in
-    let size = z.size in
-    let body_is = z.body_is in
-    let size_long = z.long in
-    let need_as = c.from-need.ensures in
-    let used_as = c.from-used.ensures in
-    let len = c.len.ensures in
     let s = seen i stack c.self.view_is c.self.invariant (omega (arith, count_of i stack c.self.view_is, c.if-self-gt0.true)) in
-    let within = s.within in
-    let last = s.last in
-    let body_below = s.body_below in
-    let fit = s.lists_fit in
-    let refs_long = s.refs_long in
-    let cells_long = s.cells_long in
     let base_as = c.from-base.ensures in
-    let body_as = c.from-2.ensures in
     let header = c.from-base.result + c.from-2.result in
     let laid = c.lay_frame.new.cells.items in
     let laid_long : length laid ≡ length i.cells.items = sym c.lay_frame.new.cells.ok.0 ∙ (c.lay_frame.ensures.len ∙ i.cells.ok.0) in
     let Lays : ℕ → Type 0 = λ b. LaysFrame i.cells.items laid b header c.args.method c.args.ref_locals c.args.cell_locals in
     let lays : Lays i.used = subst Lays base_as c.lay_frame.ensures.laid in
     let caller_is = caller_body i stack laid header c.args.method c.args.ref_locals c.args.cell_locals c.from-caller.result c.index.result.now c.from-then-self-gt0.result c.index-then-self-gt0.result.now s lays laid_long c.from-caller.ensures c.index.ensures c.from-then-self-gt0.ensures c.index-then-self-gt0.ensures in
-    let caller_body_as = c.from-then-self-gt0-2.ensures in
     let caller_as : c.from-caller.result ≡ i.youngest = c.from-caller.ensures in
     let refs_same : get_or laid (c.from-caller.result + 2) 0 ≡ ref_depth_of i.cells.items i.youngest = ap (λ k. get_or laid (k + 2) 0) caller_as ∙ lays.below (i.youngest + 2) (omega arith) in
     let cells_same : get_or laid (c.from-caller.result + 3) 0 ≡ cell_depth_of i.cells.items i.youngest = ap (λ k. get_or laid (k + 3) 0) caller_as ∙ lays.below (i.youngest + 3) (omega arith) in
-    let has_refs = c.requires.ref_args in
-    let has_cells = c.requires.cell_args in
     (omega arith, omega arith, omega arith, omega arith)
 
 pub overflow_sub-caller_base : goal.overflow_sub-caller_base
@@ -130,8 +90,6 @@ overflow_add-self-2 c =
       | else-self-gt0 w ↦ ap (λ (j : Inside). j.count) w.self-inside-is
     ] in
     let few = few_frames i.bodies.items i.cells.items i.count i.used c.self.invariant.in_frames in
-    let within = c.self.invariant.within in
-    let small = c.self.invariant.size_small in
     omega arith
 
 pub invariant_of-self : goal.invariant_of-self
@@ -139,17 +97,8 @@ invariant_of-self c =
     let i = c.self.inside in
     let stack = c.args.self.now in
     let z = sizes i stack c.args.method c.from.result c.index-body.result.now c.self.view_is c.self.invariant c.requires.method c.from.ensures c.index-body.ensures in
-    let in_use = z.in_use in
-    let size = z.size in
-    let body_is = z.body_is in
-    let size_long = z.long in
-    let need_as = c.from-need.ensures in
-    let used_as = c.from-used.ensures in
     let len = c.len.ensures in
     let base_as = c.from-base.ensures in
-    let body_as = c.from-2.ensures in
-    let over = c.if-used-need.false in
-    let locals = c.requires.locals in
     let header = c.from-base.result + c.from-2.result in
     let laid = c.lay_frame.new.cells.items in
     let laid_long : length laid ≡ length i.cells.items = sym c.lay_frame.new.cells.ok.0 ∙ (c.lay_frame.ensures.len ∙ i.cells.ok.0) in
@@ -159,8 +108,6 @@ invariant_of-self c =
     elim c.if-self-gt0.branch [
       | then-self-gt0 w ↦
           let s = seen i stack c.self.view_is c.self.invariant (omega (arith, count_of i stack c.self.view_is, w.if-self-gt0.true)) in
-          let last = s.last in
-          let body_below = s.body_below in
           let lays : Lays i.used = subst Lays base_as c.lay_frame.ensures.laid in
           let caller_is = caller_body i stack laid header c.args.method c.args.ref_locals c.args.cell_locals w.from-caller.result w.index.result.now w.from-then-self-gt0.result w.index-then-self-gt0.result.now s lays laid_long w.from-caller.ensures w.index.ensures w.from-then-self-gt0.ensures w.index-then-self-gt0.ensures in
           let caller_as = w.from-caller.ensures in
@@ -186,17 +133,8 @@ returns c =
     let i = c.self.inside in
     let stack = c.args.self.now in
     let z = sizes i stack c.args.method c.from.result c.index-body.result.now c.self.view_is c.self.invariant c.requires.method c.from.ensures c.index-body.ensures in
-    let in_use = z.in_use in
-    let size = z.size in
-    let body_is = z.body_is in
-    let size_long = z.long in
-    let need_as = c.from-need.ensures in
-    let used_as = c.from-used.ensures in
     let len = c.len.ensures in
     let base_as = c.from-base.ensures in
-    let body_as = c.from-2.ensures in
-    let over = c.if-used-need.false in
-    let locals = c.requires.locals in
     let header = c.from-base.result + c.from-2.result in
     let laid = c.lay_frame.new.cells.items in
     let laid_long : length laid ≡ length i.cells.items = sym c.lay_frame.new.cells.ok.0 ∙ (c.lay_frame.ensures.len ∙ i.cells.ok.0) in
@@ -206,8 +144,6 @@ returns c =
     elim c.if-self-gt0.branch [
       | then-self-gt0 w ↦
           let s = seen i stack c.self.view_is c.self.invariant (omega (arith, count_of i stack c.self.view_is, w.if-self-gt0.true)) in
-          let last = s.last in
-          let body_below = s.body_below in
           let lays : Lays i.used = subst Lays base_as c.lay_frame.ensures.laid in
           let caller_is = caller_body i stack laid header c.args.method c.args.ref_locals c.args.cell_locals w.from-caller.result w.index.result.now w.from-then-self-gt0.result w.index-then-self-gt0.result.now s lays laid_long w.from-caller.ensures w.index.ensures w.from-then-self-gt0.ensures w.index-then-self-gt0.ensures in
           let caller_as = w.from-caller.ensures in

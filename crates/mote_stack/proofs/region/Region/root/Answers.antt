@@ -9,9 +9,6 @@ pub returns : goal.returns
 returns c =
     let i = c.self.inside in
     let is = c.self.invariant in
-    let within = is.within in
-    let asked = c.requires in
-    let below = c.position_of.ensures.within in
     let same = ap (λ (s : Stack). length (roots_of s)) c.self.view_is in
     get_or_read i.cells.items c.position_of.result c.index.result.now (omega arith) c.index.ensures 0
     ∙ (ap (λ k. get_or i.cells.items k 0) c.position_of.ensures.value

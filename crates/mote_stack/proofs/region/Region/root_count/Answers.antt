@@ -12,17 +12,11 @@ overflow_add-total c =
     let count = c.self.inside.count - c.loop-step._step in
     let end = c.loop-step.end in
     let view = opened bodies cells count end (end - 4) c.loop-step.invariant.frames (omega arith) (omega arith) in
-    let last = view.header_last in
-    let below = view.is.body_below in
-    let fit = view.is.lists_fit in
     let within = c.self.invariant.within in
-    let so_far = c.loop-step.invariant.within in
     let depth = depth_in cells (end - 4) (c.from.result + 2) c.index.result.now (omega arith) (ap (λ n. n + 2) c.from.ensures) c.index.ensures in
-    let depth_as = c.from-total.ensures in
     let bound = refs_bound bodies cells c.self.inside.count c.self.inside.used within c.self.invariant.in_frames in
     let total = c.loop-step.invariant.total in
     let next = refs_next bodies cells count end (end - 4) (count - 1) (base_of bodies cells (end - 4)) c.index.result.now view (omega arith) (omega arith) (omega arith) depth in
-    let small = c.self.invariant.size_small in
     omega arith
 
 pub index-requires-in-loop-step-2 : goal.index-requires-in-loop-step-2
@@ -32,13 +26,7 @@ index-requires-in-loop-step-2 c =
     let count = c.self.inside.count - c.loop-step._step in
     let end = c.loop-step.end in
     let view = opened bodies cells count end (end - 4) c.loop-step.invariant.frames (omega arith) (omega arith) in
-    let last = view.header_last in
-    let below = view.is.body_below in
-    let fit = view.is.lists_fit in
-    let within = c.self.invariant.within in
-    let so_far = c.loop-step.invariant.within in
     let known = method_in bodies cells count end (end - 4) c.from-in-loop-step.result c.index-in-loop-step.result.now c.from-in-loop-step-2.result view (omega arith) c.from-in-loop-step.ensures c.index-in-loop-step.ensures c.from-in-loop-step-2.ensures in
-    let long = c.self.inside.bodies.ok.0 in
     omega arith
 
 -- the frame that a step passes
@@ -52,9 +40,6 @@ is_passed c =
     let count = c.self.inside.count - c.loop-step._step in
     let end = c.loop-step.end in
     let view = opened bodies cells count end (end - 4) c.loop-step.invariant.frames (omega arith) (omega arith) in
-    let last = view.header_last in
-    let within = c.self.invariant.within in
-    let so_far = c.loop-step.invariant.within in
     passes bodies cells count end (c.self.inside.count - (c.loop-step._step + 1)) (c.from.result + 2) c.index.result.now c.from-in-loop-step.result c.index-in-loop-step.result.now c.from-in-loop-step-2.result c.index-in-loop-step-2.result.now
     c.loop-step.invariant.frames (omega arith) (omega arith) (omega arith) (ap (λ n. n + 2) c.from.ensures) c.index.ensures c.from-in-loop-step.ensures c.index-in-loop-step.ensures c.from-in-loop-step-2.ensures c.index-in-loop-step-2.ensures
 
@@ -70,9 +55,6 @@ loop-step-preserved c =
     let passed = is_passed (goal.at.loop-step-preserved c).After-index-in-loop-step-2 in
     let base = end - 4 - c.index-in-loop-step-2.result.now in
     let older = c.self.inside.count - (c.loop-step._step + 1) in
-    let next = passed.next in
-    let depth_as = c.from-total.ensures in
-    let so_far = c.loop-step.invariant.within in
     let total = c.loop-step.invariant.total in
     record {
       frames = frames_next bodies cells count end (end - 4) older base passed.view passed.less passed.low;

@@ -7,12 +7,10 @@ pub invariant_of-self : goal.invariant_of-self
 invariant_of-self c =
     let s = seen c.self.inside c.args.self.now c.self.view_is c.self.invariant (some_of_cell c.args.self.now c.args.n c.requires) in
     let header = c.from-header.ensures in
-    let n = c.from.ensures in
     (cell_set c.self.inside c.args.self.now (c.from-header.result - 1 - c.from.result) c.args.n c.args.v c.self.invariant s c.requires (omega arith)).1
 
 pub returns : goal.returns
 returns c =
     let s = seen c.self.inside c.args.self.now c.self.view_is c.self.invariant (some_of_cell c.args.self.now c.args.n c.requires) in
     let header = c.from-header.ensures in
-    let n = c.from.ensures in
     (cell_set c.self.inside c.args.self.now (c.from-header.result - 1 - c.from.result) c.args.n c.args.v c.self.invariant s c.requires (omega arith)).0

@@ -7,41 +7,26 @@ pub overflow_sub-header : goal.overflow_sub-header
 overflow_sub-header c =
     let s = seen c.self.inside c.args.self.now c.self.view_is c.self.invariant (some_of_ref c.args.self.now c.args.n c.requires) in
     let body = body_read c.self.inside c.args.self.now c.from-header.result c.index.result.now c.from.result c.index-body.result.now s c.from-header.ensures c.index.ensures c.from.ensures c.index-body.ensures in
-    let body_as = c.from-2.ensures in
     let header = c.from-header.ensures in
-    let below = s.body_below in
     omega arith
 
 pub index_mut-requires : goal.index_mut-requires
 index_mut-requires c =
     let s = seen c.self.inside c.args.self.now c.self.view_is c.self.invariant (some_of_ref c.args.self.now c.args.n c.requires) in
     let body = body_read c.self.inside c.args.self.now c.from-header.result c.index.result.now c.from.result c.index-body.result.now s c.from-header.ensures c.index.ensures c.from.ensures c.index-body.ensures in
-    let body_as = c.from-2.ensures in
     let header = c.from-header.ensures in
-    let n = c.from-3.ensures in
-    let asked = c.requires in
-    let refs_long = s.refs_long in
-    let fit = s.lists_fit in
-    let below = s.body_below in
-    let within = s.within in
-    let last = s.last in
-    let long = s.long in
     omega arith
 
 pub invariant_of-self : goal.invariant_of-self
 invariant_of-self c =
     let s = seen c.self.inside c.args.self.now c.self.view_is c.self.invariant (some_of_ref c.args.self.now c.args.n c.requires) in
     let body = body_read c.self.inside c.args.self.now c.from-header.result c.index.result.now c.from.result c.index-body.result.now s c.from-header.ensures c.index.ensures c.from.ensures c.index-body.ensures in
-    let body_as = c.from-2.ensures in
     let header = c.from-header.ensures in
-    let n = c.from-3.ensures in
     (ref_set c.self.inside c.args.self.now (c.from-header.result - c.from-2.result + c.from-3.result) c.args.n c.args.v c.self.invariant s c.requires (omega arith)).1
 
 pub returns : goal.returns
 returns c =
     let s = seen c.self.inside c.args.self.now c.self.view_is c.self.invariant (some_of_ref c.args.self.now c.args.n c.requires) in
     let body = body_read c.self.inside c.args.self.now c.from-header.result c.index.result.now c.from.result c.index-body.result.now s c.from-header.ensures c.index.ensures c.from.ensures c.index-body.ensures in
-    let body_as = c.from-2.ensures in
     let header = c.from-header.ensures in
-    let n = c.from-3.ensures in
     (ref_set c.self.inside c.args.self.now (c.from-header.result - c.from-2.result + c.from-3.result) c.args.n c.args.v c.self.invariant s c.requires (omega arith)).0

@@ -8,7 +8,6 @@ pub invariant_of-self : goal.invariant_of-self
 invariant_of-self c =
     let i = c.self.inside in
     let is = c.self.invariant in
-    let asked = c.requires in
     let same = ap (λ (s : Stack). length (roots_of s)) c.self.view_is in
     let long = length-set i.cells.items c.position_of-at.result c.args.v in
     let done = root_set i.bodies.items i.cells.items i.count i.used c.args.k c.args.v c.position_of-at.result is.within is.in_frames (omega arith) c.position_of-at.ensures.value in
@@ -28,7 +27,6 @@ unfolding stacked
 returns c =
     let i = c.self.inside in
     let is = c.self.invariant in
-    let asked = c.requires in
     let same = ap (λ (s : Stack). length (roots_of s)) c.self.view_is in
     let done = root_set i.bodies.items i.cells.items i.count i.used c.args.k c.args.v c.position_of-at.result is.within is.in_frames (omega arith) c.position_of-at.ensures.value in
     ap (λ fs. stacked i.cells.len i.bodies.items fs) done.0 ∙ ap (λ (s : Stack). with_root s c.args.k c.args.v) c.self.view_is
