@@ -1,1 +1,2 @@
+-- the first position of a list at which a test passes
 mod Positions
