@@ -1,6 +1,6 @@
 -- The account of a run, whichever machine runs: what a step needs, in which order its needs are met, and where a run
 -- stops for them. A machine's step knows neither budgets nor limits: it answers a move.
-use Rattle.std.specs.Prelude.{ℕ, suc, ◌+◌, nat_le, min, Bool, true, if◌then◌else◌, List, [], ◌∷◌, ◌++◌, Option, Some, None}
+use Rattle.std.specs.Prelude.{ℕ, suc, ◌+◌, nat_le, min, Bool, true, false, if◌then◌else◌, List, [], ◌∷◌, ◌++◌, Option, Some, None}
 use Rattle.std.specs.Option.{option_map_or}
 
 -- ---- moves
@@ -23,6 +23,18 @@ pub record Need : Type 0 where
   pub placed : Option ℕ
   pub tick : Bool
   pub frame : Option ℕ
+
+abbrev pub no_need : Need
+no_need = record { placed = None; tick = false; frame = None }
+
+abbrev pub tick_need : Need
+tick_need = record { placed = None; tick = true; frame = None }
+
+abbrev pub place_need : ℕ → Need
+place_need cells = record { placed = Some cells; tick = false; frame = None }
+
+abbrev pub call_need : ℕ → Need
+call_need cells = record { placed = None; tick = true; frame = Some cells }
 
 -- what a step does once its needs are met: it goes on to a state, or it ends the run; or there is no such step
 pub data Move (State Ending : Type 0) : Type 0 where
