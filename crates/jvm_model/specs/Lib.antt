@@ -32,3 +32,10 @@ pub mod TypesRight
 pub mod TypesRounds
 pub mod Verification
 pub mod InitialStatics
+pub mod WidthsShapes
+pub mod WidthsSlots
+pub mod ImageExpansion
+pub mod WidthsFrame
+pub mod ImageNumbering
+pub mod ImageEmission
+pub mod ImageTables

@@ -10,8 +10,14 @@
 //! `image_form` and `dialogue`.
 #![tactic(auto)]
 
+mod entries;
 mod laws;
+mod numbers;
+mod plan;
 mod refusal;
 
+pub use entries::{Entry, Narrow};
 pub use laws::{one_ending, one_linking, runs_leave_the_rest, statics_are_set};
+pub use numbers::{FieldPlace, Layout, Selector};
+pub use plan::{Fill, Plan};
 pub use refusal::{Cause, Refusal};
