@@ -1,3 +1,9 @@
 pub mod State
 pub mod Numbers
 pub mod Machine
+pub mod SplitState
+pub mod SplitTypes
+pub mod SplitMoves
+pub mod SplitObjects
+pub mod SplitStep
+pub mod SplitRun
