@@ -1,0 +1,5 @@
+pub mod Setting
+pub mod MatchedFrames
+pub mod MatchedObjects
+pub mod TypedView
+pub mod Followed
