@@ -21,7 +21,7 @@ use Rattle.image_form.proofs.Matching.{same_sig, matched_from, matched_to}
 
 -- ---- statics
 
-static_refs_reads : Reads ℕ (λ count. count ≤ 16384) u2 static_refs_at
+pub static_refs_reads : Reads ℕ (λ count. count ≤ 16384) u2 static_refs_at
 unfolding static_refs_at
 static_refs_reads = most_reads 16384 in_statics (omega arith) tt
 
@@ -29,7 +29,7 @@ cell_reads : (before : List ℕ) → Reads ℕ (λ cell. cell < 2 ^ 16) u2 (cell
 unfolding cell_at
 cell_reads before = u2_reads
 
-static_cells_reads : Reads (List ℕ) (λ cells. (length cells ≤ 16384) × Each (λ cell. cell < 2 ^ 16) cells) (counted u2) static_cells_at
+pub static_cells_reads : Reads (List ℕ) (λ cells. (length cells ≤ 16384) × Each (λ cell. cell < 2 ^ 16) cells) (counted u2) static_cells_at
 unfolding static_cells_at
 static_cells_reads = counted_reads cell_reads (most_reads 16384 in_statics (omega arith) tt)
 
@@ -65,7 +65,7 @@ main_to : (methods : List Method) (main : ℕ) → IsMain methods main → names
 main_to methods main h =
     ap (λ (b : Bool). cond b false (is_bare (slice_get methods (main - 32)))) (le-ltb main 32 h.not_library) ∙ ap is_bare h.method_is ∙ bare_sig h.method.sig h.sig_is
 
-main_reads : (methods : List Method) → Reads ℕ (IsMain methods) u2 (main_at methods)
+pub main_reads : (methods : List Method) → Reads ℕ (IsMain methods) u2 (main_at methods)
 unfolding main_at
 main_reads methods = Reads-as (u2_tested (names_main methods) in_main tt) (λ main h. main_from methods main h.0 h.1) (λ main h. (h.main_fits, main_to methods main h)) (λ main. refl)
 
@@ -77,14 +77,14 @@ part_bytes image =
     counted type_bytes image.types ++ (counted sig_bytes image.selectors ++ (counted method_bytes image.methods ++ (u2 image.static_refs ++ (counted u2 image.static_cells ++ u2 image.main))))
 
 -- an image of the grammar, but for what its rows name
-record IsOfParts (image : Image) : Type 0 where
-  version_is : image.version ≡ 1
-  types : (length image.types ≤ most_types) × EachAfter IsType [] image.types
-  selectors : (length image.selectors ≤ 16384) × Each IsSelector image.selectors
-  methods : (length image.methods ≤ most_methods) × Each (IsMethod image.types) image.methods
-  static_refs : image.static_refs ≤ 16384
-  static_cells : (length image.static_cells ≤ 16384) × Each (λ cell. cell < 2 ^ 16) image.static_cells
-  main : IsMain image.methods image.main
+pub record IsOfParts (image : Image) : Type 0 where
+  pub version_is : image.version ≡ 1
+  pub types : (length image.types ≤ most_types) × EachAfter IsType [] image.types
+  pub selectors : (length image.selectors ≤ 16384) × Each IsSelector image.selectors
+  pub methods : (length image.methods ≤ most_methods) × Each (IsMethod image.types) image.methods
+  pub static_refs : image.static_refs ≤ 16384
+  pub static_cells : (length image.static_cells ≤ 16384) × Each (λ cell. cell < 2 ^ 16) image.static_cells
+  pub main : IsMain image.methods image.main
 
 abbrev the_image : List TypeEntry → List Sig → List Method → ℕ → List ℕ → ℕ → Image
 the_image types selectors methods static_refs static_cells main =
@@ -99,7 +99,7 @@ parts_version image e = ap (λ (i : Image). i.version) e
 parts_text : (image : Image) → counted type_bytes image.types ++ (counted sig_bytes image.selectors ++ (counted method_bytes image.methods ++ (u2 image.static_refs ++ (counted u2 image.static_cells ++ (u2 image.main ++ []))))) ≡ part_bytes image
 parts_text image = refl
 
-parts_reads : Reads Image IsOfParts part_bytes parts_at
+pub parts_reads : Reads Image IsOfParts part_bytes parts_at
 unfolding parts_at
 parts_reads =
     Reads-as

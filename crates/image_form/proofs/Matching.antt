@@ -1,5 +1,6 @@
 -- The rows of all classes are matched exactly where each has one signature.
-use Rattle.std.proofs.Common.{◌≡◌, ℕ, suc, Bool, true, false, ◌&&◌, cond, eqb, List, [], ◌∷◌, ◌++◌, Option, Some, None, refl, sym, ap, ◌∙◌}
+use Rattle.std.proofs.Common.{◌≡◌, ℕ, suc, ◌+◌, Bool, true, false, ◌&&◌, cond, eqb, List, [], ◌∷◌, ◌++◌, length, Option, Some, None, refl, sym, ap, ◌∙◌, arith}
+use Rattle.byte_read.proofs.Steps.{chosen, true_false}
 use Rattle.std.specs.Prelude.{slice_get}
 use Rattle.std.specs.List.{list_all}
 use Rattle.std.proofs.lemmas.Bool.{eqb-true, eq-eqb, and_parts, and_from}
@@ -88,3 +89,49 @@ unfolding first_unmatched
 matched_to selectors methods index before [] h = refl
 matched_to selectors methods index before (entry ∷ entries) h =
     rw (entry_to selectors methods entry h.0) (matched_to selectors methods (suc index) (before ++ entry ∷ []) entries h.1)
+
+-- ---- the first entry that is not matched
+
+abbrev index_of : ℕ → Option ℕ
+index_of index = Some index
+
+pub record Unmatched (selectors : List Sig) (methods : List Method) (index : ℕ) (seen entries : List TypeEntry) (found : ℕ) : Type 0 where
+  pub before : List TypeEntry
+  pub entry : TypeEntry
+  pub after : List TypeEntry
+  pub parts : entries ≡ before ++ entry ∷ after
+  pub matched : EachAfter (λ earlier other. HasSignatures selectors methods other) seen before
+  pub unmatched : HasSignatures selectors methods entry → ⊥
+  pub index_is : found ≡ index + length before
+
+no_index : (found : ℕ) → None ≡ index_of found → ⊥
+no_index found e = cc
+
+same_found : (index found : ℕ) → index_of index ≡ Some found → index ≡ found
+same_found index found e = cc
+
+pub found_unmatched : (selectors : List Sig) (methods : List Method) (index : ℕ) (seen entries : List TypeEntry) (found : ℕ) → first_unmatched selectors methods index entries ≡ Some found → Unmatched selectors methods index seen entries found
+unfolding first_unmatched
+found_unmatched selectors methods index seen [] found e = absurd (no_index found e)
+found_unmatched selectors methods index seen (entry ∷ entries) found e =
+    chosen (is_entry_matched selectors methods entry) (first_unmatched selectors methods (suc index) entries) (Some index) (Some found) e
+    (λ is e_rest.
+    let o = found_unmatched selectors methods (suc index) (seen ++ entry ∷ []) entries found e_rest in
+    record {
+      before = entry ∷ o.before;
+      entry = o.entry;
+      after = o.after;
+      parts = ap (λ (others : List TypeEntry). entry ∷ others) o.parts;
+      matched = (entry_from selectors methods entry is, o.matched);
+      unmatched = o.unmatched;
+      index_is = omega (arith, o.index_is);
+    })
+    (λ not e_here. record {
+      before = [];
+      entry = entry;
+      after = entries;
+      parts = refl;
+      matched = tt;
+      unmatched = λ h. true_false (sym (entry_to selectors methods entry h) ∙ not);
+      index_is = omega (arith, same_found index found e_here);
+    })

@@ -47,7 +47,7 @@ signature_reads refs why h =
 receiver_reads : (why : FormRefusal) → IsOfTables why → Reads ℕ (λ refs. (1 ≤ refs) × (refs < 2 ^ 8)) (λ refs. refs ∷ []) (λ bytes. tested (leb 1) why (u1_at bytes))
 receiver_reads why h = Reads-as (u1_tested (leb 1) why h) (λ refs g. (leb-true _ _ g.1, g.0)) (λ refs g. (g.1, le-leb _ _ g.0)) (λ refs. refl)
 
-selector_reads : (before : List Sig) → Reads Sig IsSelector sig_bytes (selector_at before)
+pub selector_reads : (before : List Sig) → Reads Sig IsSelector sig_bytes (selector_at before)
 unfolding selector_at
 selector_reads before =
     Reads-as
@@ -157,7 +157,7 @@ method_parts_are method =
     in
     ap (λ (text : List ℕ). sig_bytes method.sig ++ (u2 method.ref_locals ++ (u2 method.cell_locals ++ (u2 method.body ++ text)))) last
 
-method_reads : (types : List TypeEntry) (before : List Method) → Reads Method (IsMethod types) method_bytes (method_at types before)
+pub method_reads : (types : List TypeEntry) (before : List Method) → Reads Method (IsMethod types) method_bytes (method_at types before)
 unfolding method_at
 method_reads types before =
     Reads-as

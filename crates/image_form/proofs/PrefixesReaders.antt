@@ -33,7 +33,7 @@ counted_steady : {A : Type 0} {count_at : Reader ℕ} {item_at : List A → Read
 counted_steady counts one = first counts (λ count. items_steady one count [])
 
 -- a count of at most so many
-most_steady : (most : ℕ) (why : FormRefusal) → IsSteady (λ bytes. tested (λ count. leb count most) why (u2_at bytes))
+pub most_steady : (most : ℕ) (why : FormRefusal) → IsSteady (λ bytes. tested (λ count. leb count most) why (u2_at bytes))
 most_steady most why = tested_steady (number_steady 2) (λ count. leb count most) why
 
 -- ---- types
@@ -92,7 +92,7 @@ tagged_type_steady types tag =
     (either (eqb tag 1) (last (element_steady types) (λ element. RefArray element))
     (either (eqb tag 2) (last (kind_steady types) (λ kind. NumArray kind)) (failing (in_types (length types)))))
 
-type_steady : (types : List TypeEntry) → IsSteady (type_at types)
+pub type_steady : (types : List TypeEntry) → IsSteady (type_at types)
 unfolding type_at
 type_steady types = first u1_steady (tagged_type_steady types)
 
@@ -106,7 +106,7 @@ signature_steady : (refs : ℕ) (why : FormRefusal) → IsSteady (signature_at r
 unfolding signature_at
 signature_steady refs why = first (number_steady 2) (λ cells. last (tested_steady u1_steady (λ result. leb result 3) why) (λ result. signature refs cells result))
 
-selector_steady : (before : List Sig) → IsSteady (selector_at before)
+pub selector_steady : (before : List Sig) → IsSteady (selector_at before)
 unfolding selector_at
 selector_steady before =
     first (tested_steady u1_steady (leb 1) (in_selectors (length before))) (λ refs. signature_steady refs (in_selectors (length before)))
@@ -136,7 +136,7 @@ frame_steady index sig =
     first (tested_steady (number_steady 2) (leb sig.cells) (in_methods index)) (λ cell_locals.
     last (tested_steady (number_steady 2) (λ body. leb (ref_locals + cell_locals) body && leb body 32763) (in_methods index)) (λ body. (ref_locals, cell_locals, body))))
 
-method_steady : (types : List TypeEntry) (before : List Method) → IsSteady (method_at types before)
+pub method_steady : (types : List TypeEntry) (before : List Method) → IsSteady (method_at types before)
 unfolding method_at
 method_steady types before =
     first u1_steady (λ refs.
@@ -152,7 +152,7 @@ methods_steady types = counted_steady (most_steady most_methods (in_methods 0)) 
 
 -- ---- statics and main
 
-static_refs_steady : IsSteady static_refs_at
+pub static_refs_steady : IsSteady static_refs_at
 unfolding static_refs_at
 static_refs_steady = most_steady 16384 in_statics
 
@@ -164,7 +164,7 @@ static_cells_steady : IsSteady static_cells_at
 unfolding static_cells_at
 static_cells_steady = counted_steady (most_steady 16384 in_statics) cell_steady
 
-main_steady : (methods : List Method) → IsSteady (main_at methods)
+pub main_steady : (methods : List Method) → IsSteady (main_at methods)
 unfolding main_at
 main_steady methods = tested_steady (number_steady 2) (names_main methods) in_main
 

@@ -300,7 +300,7 @@ tag_fits (Class class) = omega arith
 tag_fits (RefArray element) = omega arith
 tag_fits (NumArray kind) = omega arith
 
-type_reads : (types : List TypeEntry) → Reads TypeEntry (IsType types) type_bytes (type_at types)
+pub type_reads : (types : List TypeEntry) → Reads TypeEntry (IsType types) type_bytes (type_at types)
 unfolding type_at
 type_reads types =
     Reads-as (field_reads tag_of (λ tag entry h. h.1) u1_reads (tagged_reads types)) (λ entry h. h.1.0) (λ entry h. (tag_fits entry, (h, refl))) tagged_parts

@@ -7,3 +7,4 @@ pub mod Refused
 pub mod Laws
 pub mod Prefixes
 pub mod Arrays
+pub mod BadTables

@@ -1,3 +1,4 @@
+ghost use Rattle.image_form.specs.BadTables.{BadTableIsOfEntry};
 ghost use Rattle.image_form.specs.Prefixes.{FaultsHold, PrefixesAreTruncated, PrefixesOfFaults, PrefixesOfTruncated, NoneBeginsWithFaults};
 ghost use Rattle.image_form.specs.Laws.{HasOneEncoding, IsInjective, IsPrefixFree, SmallIsImage};
 
@@ -21,4 +22,9 @@ pub fn prefixes_decide()
     ensures none { NoneBeginsWithFaults }
     ensures first { PrefixesOfFaults }
     ensures truncated { PrefixesOfTruncated }
+{}
+
+/// Where an entry of a table is refused, all before it is good, and none by the rules begins there.
+pub fn faults_say()
+    ensures { BadTableIsOfEntry }
 {}
