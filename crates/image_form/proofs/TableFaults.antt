@@ -13,7 +13,7 @@ use Rattle.image_form.specs.declared.refusal.FormRefusal.TheVariants.{Truncated}
 use Rattle.image_form.specs.Library.{signature, names_type, names_class, names_parent, names_interface, refs_of, nums_of}
 use Rattle.image_form.specs.Grammar.{is_above, is_ref_array, is_num_array, is_kind}
 use Rattle.image_form.specs.Reading.{u1_at, u2_at, tested, in_types, in_selectors, in_methods, interface_at, interfaces_at, row_at, rows_at, name_at, refs_at, nums_at, class_at, element_at, kind_at, tagged_at, type_at, signature_at, selector_at, handler_at, handlers_at, code_at, frame_at, method_at}
-use Rattle.image_form.proofs.Raises.{Raises, done, failing, either, first, last, tested as tested_raises, u1_raises, u2_raises, slice_raises, items_raise}
+use Rattle.image_form.proofs.Raises.{Raises, failing, either, first, last, tested as tested_raises, u1_raises, u2_raises, slice_raises, items_raise}
 
 -- bytes are missed, or this is the refusal
 abbrev pub IsCutOr : FormRefusal → FormRefusal → Type 0

@@ -1,5 +1,5 @@
 -- What a bad entry of a table is, in words of the format.
-use Rattle.std.proofs.Common.{◌≡◌, ◌⊎◌, ℕ, zero, suc, ◌+◌, ◌^◌, ◌<◌, ◌≤◌, leb, eqb, List, [], ◌∷◌, ◌++◌, length, get_or, take, drop, Option, Some, None, Result, Ok, Err, refl, sym, ap, subst, ◌∙◌, append_assoc, arith, inl, inr}
+use Rattle.std.proofs.Common.{◌≡◌, ℕ, zero, suc, ◌^◌, ◌<◌, leb, eqb, List, [], ◌∷◌, ◌++◌, length, take, drop, Option, Some, None, Ok, Err, refl, sym, ap, subst, ◌∙◌, append_assoc, arith, inl, inr}
 use Rattle.std.specs.Str.{bytes_eq}
 use Rattle.std.proofs.lemmas.Bool.{eqb-true}
 use Rattle.std.proofs.lemmas.List.{take-append-drop}
@@ -7,24 +7,22 @@ use Rattle.std.proofs.lemmas.Slice.Eq.{bytes_eq-Decides}
 use Rattle.byte_read.specs.Reading.{◌>>=◌}
 use Rattle.byte_read.proofs.Steps.{IsBytes, IsBytes-drop, bind_fails_then, no_failure, same_why, chosen, number_fails}
 use Rattle.image_instr.specs.Insn.{u2}
-use Rattle.image_instr.specs.declared.signature.Sig.{Sig}
 use Rattle.image_form.specs.declared.record.Image.{Image}
 use Rattle.image_form.specs.declared.record.TypeEntry.{TypeEntry}
 use Rattle.image_form.specs.declared.record.Method.{Method}
-use Rattle.image_form.specs.declared.refusal.FormRefusal.{FormRefusal}
 use Rattle.image_form.specs.declared.refusal.FormRefusal.TheVariants.{NotInfusion, FormVersion, Truncated, TrailingBytes, BadTable}
 use Rattle.image_form.specs.Format.{magic, counted, type_bytes, sig_bytes, method_bytes}
-use Rattle.image_form.specs.Grammar.{IsType, IsSelector, IsMethod, most_types, most_methods}
-use Rattle.image_form.specs.Reading.{u2_at, tested, items_at, in_types, in_selectors, in_methods, in_statics, in_main, types_at, selectors_at, methods_at, static_refs_at, cell_at, static_cells_at, names_main, main_at, matched, parts_at, whole_of, versioned, image_of}
+use Rattle.image_form.specs.Grammar.{IsSelector, IsMethod, most_types, most_methods}
+use Rattle.image_form.specs.Reading.{u2_at, tested, items_at, in_types, in_statics, in_main, types_at, selectors_at, methods_at, static_refs_at, cell_at, static_cells_at, names_main, main_at, matched, parts_at, whole_of, versioned, image_of}
 use Rattle.image_form.specs.Refused.{IsRefused}
-use Rattle.image_form.specs.BadTables.{AreBytes, BeginsNone, AtMost, HasBadItem, HasBadList, HasBadType, HasBadSelector, HasBadMethod, HasTablesThen, HasBadStatics, HasStaticsThen, HasBadMain, HasBadRows, IsBadTable, types, selectors, methods, statics, main, rows, HasBadTable}
+use Rattle.image_form.specs.BadTables.{AreBytes, BeginsNone, AtMost, HasBadItem, HasBadList, HasBadType, HasTablesThen, HasStaticsThen, IsBadTable, types, selectors, methods, statics, main, rows, HasBadTable}
 use Rattle.image_form.proofs.Readers.{Reader, Reads, most_reads, u2_reads}
 use Rattle.image_form.proofs.TypeParts.{type_reads, types_reads}
 use Rattle.image_form.proofs.MethodParts.{selector_reads, selectors_reads, method_reads, methods_reads}
 use Rattle.image_form.proofs.Matching.{found_unmatched}
-use Rattle.image_form.proofs.ImageParts.{static_refs_reads, static_cells_reads, main_reads, part_bytes, IsOfParts, parts_reads, unmatched_in, match_rows}
+use Rattle.image_form.proofs.ImageParts.{static_refs_reads, static_cells_reads, main_reads, parts_reads, unmatched_in, match_rows}
 use Rattle.image_form.proofs.Whole.{ends, whole_is}
-use Rattle.image_form.proofs.PrefixesReaders.{IsSteady, most_steady, type_steady, selector_steady, method_steady, static_refs_steady, main_steady}
+use Rattle.image_form.proofs.PrefixesReaders.{IsSteady, most_steady, type_steady, selector_steady, method_steady, main_steady}
 use Rattle.image_form.proofs.Raises.{Raises, u2_raises, items_raise}
 use Rattle.image_form.proofs.TableFaults.{IsCutOr, u2_tested, type_raises, selector_raises, method_raises}
 use Rattle.image_form.proofs.TablesStop.{begins_none, list_stops}
