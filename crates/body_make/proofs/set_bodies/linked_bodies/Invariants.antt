@@ -1,6 +1,6 @@
 use Rattle.std.proofs.Common.{◌≡◌}
 use Rattle.jvm_model.specs.Linking.{ClassLinks}
-use Rattle.body_make.proofs.FoundFirst.{Decides}
+use Rattle.jvm_model.proofs.Scans.{Decides}
 use Rattle.body_make.proofs.ClassBodies.{CompletesClasses}
 use Rattle.body_make.proofs.set_bodies.linked_bodies.Given as goal
 
