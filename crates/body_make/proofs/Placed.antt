@@ -1,17 +1,15 @@
 -- What instructions and rows name, at their places in the code.
-use Rattle.std.proofs.Common.{◌≡◌, inl, inr, ◌⊎◌, ◌↔◌, ℕ, zero, suc, ◌+◌, ◌-◌, ◌<◌, ◌≤◌, Bool, true, false, List, [], ◌∷◌, length, get_or, map, Option, Some, None, refl, sym, ap, subst, ◌∙◌, arith}
-use Rattle.std.specs.Prelude.{Result, Ok, Err}
+use Rattle.std.proofs.Common.{◌≡◌, inl, inr, ◌⊎◌, ◌↔◌, ℕ, zero, suc, ◌-◌, ◌<◌, ◌≤◌, Bool, true, List, [], ◌∷◌, length, get_or, Option, Some, None, refl, sym, ap, subst, ◌∙◌, arith}
+use Rattle.std.specs.Prelude.{Err}
 use Rattle.std.proofs.lemmas.Bool.{false≢true}
-use Rattle.class_pool.specs.Pool.{Slots}
 use Rattle.class_file.specs.declared.record.ClassFile.{ClassFile}
 use Rattle.class_file.specs.declared.record.HandlerRow.{HandlerRow}
 use Rattle.class_code.specs.declared.insn.Insn.{Insn}
-use Rattle.class_code.specs.Code.{Insns, RiseFrom}
+use Rattle.class_code.specs.Code.{Insns}
 use Rattle.class_code.specs.Flow.{code_ways}
-use Rattle.code_reach.specs.Reached.{Ways, IsReached, AreFlags, TellReached, RisesFrom}
+use Rattle.code_reach.specs.Reached.{Ways, IsReached, AreFlags, TellReached}
 use Rattle.body_form.specs.declared.op.Op.{Op}
 use Rattle.body_form.specs.declared.body.Guard.{Guard}
-use Rattle.body_form.specs.Flow.{Ops}
 use Rattle.body_make.specs.declared.fault.Fault.{Fault}
 use Rattle.body_make.specs.declared.fault.Fault.TheVariants as fault
 use Rattle.body_make.specs.declared.refusal.LinkRefusal.{LinkRefusal}
@@ -23,7 +21,7 @@ use Rattle.jvm_model.specs.declared.refusal.Refusal.{Refusal}
 use Rattle.jvm_model.specs.Resolution.{Resolved}
 use Rattle.jvm_model.specs.Instructions.{op_of, caught_by}
 use Rattle.jvm_model.specs.Linking.{fault_of, refusal_at, NamesOf, IsSkipped, IsTested, row_refusal}
-use Rattle.jvm_model.specs.Bodies.{AreEach, IsFamily, IsResolved, IsNop, IsGuard}
+use Rattle.jvm_model.specs.Bodies.{IsFamily, IsResolved, IsNop, IsGuard}
 
 -- a fault that is told is refused, unless there was no memory
 pub told_refusal : {X : Type 0} (position member pc : ℕ) (why : LinkRefusal) (fault : Fault) (wanted : Resolved X) → RefusesFor position member pc fault why → Tells {X = X} (Err fault) wanted

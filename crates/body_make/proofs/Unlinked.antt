@@ -1,5 +1,5 @@
 -- A set has one refusal of its classes and its entry, or none.
-use Rattle.std.proofs.Common.{◌≡◌, inl, inr, List, Option, Some, None, sym, ◌∙◌}
+use Rattle.std.proofs.Common.{◌≡◌, inl, inr, List, Some, None, sym, ◌∙◌}
 use Rattle.std.proofs.lemmas.Option.{none-some, same_Some}
 use Rattle.class_file.specs.declared.record.ClassFile.{ClassFile}
 use Rattle.body_make.specs.Names.{IsUnlinked}

@@ -1,6 +1,5 @@
-use Rattle.std.proofs.Common.{◌≡◌, ◌-◌, ◌∙◌, inl, inr, ℕ, Option, None, Some, sym, get_or, []}
+use Rattle.std.proofs.Common.{◌≡◌, ◌-◌, ◌∙◌, inl, inr, sym, get_or, []}
 use Rattle.class_file.specs.declared.record.HandlerRow.{HandlerRow}
-use Rattle.jvm_model.specs.declared.refusal.Refusal.{Refusal}
 use Rattle.jvm_model.specs.Linking.{row_refusal}
 use Rattle.jvm_model.specs.Bodies.{IsGuard}
 use Rattle.body_make.specs.Refusals.{refusal_of}

@@ -1,12 +1,11 @@
-use Rattle.std.proofs.Common.{◌≡◌, ◌-◌, ◌∙◌, inl, inr, ℕ, [], length, Option, None, Some, sym, get_or, arith}
+use Rattle.std.proofs.Common.{◌≡◌, ◌-◌, inl, inr, ℕ, [], length, arith}
 use Rattle.class_code.specs.Flow.{code_ways}
 use Rattle.class_code.specs.declared.insn.Insn.{Insn}
-use Rattle.jvm_model.specs.declared.refusal.Refusal.{Refusal}
 use Rattle.jvm_model.specs.Linking.{NamesOf}
 use Rattle.jvm_model.specs.Bodies.{IsFamily}
 use Rattle.body_make.specs.Refusals.{refusal_of}
 use Rattle.body_make.proofs.Adding.{completes_more, completes_end}
-use Rattle.jvm_model.proofs.Scans.{decides_more, decides_here, decides_end}
+use Rattle.jvm_model.proofs.Scans.{decides_more, decides_here}
 use Rattle.body_make.proofs.Placed.{flag_at, flags_length, named_none, named_some, family_of}
 use Rattle.body_make.proofs.code.ops_of.Goals as goal
 

@@ -1,4 +1,4 @@
-use Rattle.std.proofs.Common.{◌≡◌, ◌-◌, inl, inr, ℕ}
+use Rattle.std.proofs.Common.{◌-◌, inl, inr}
 use Rattle.class_code.specs.Flow.{code_ways}
 use Rattle.body_make.specs.Refusals.{refusal_of}
 use Rattle.body_make.proofs.CodeNamed.{code_none, code_first, code_second}

@@ -1,4 +1,4 @@
-use Rattle.std.proofs.Common.{◌≡◌, inl, inr, ap}
+use Rattle.std.proofs.Common.{inl, inr, ap}
 use Rattle.body_make.specs.declared.refusal.LinkRefusal.{LinkRefusal}
 use Rattle.body_make.specs.Refusals.{refusal_of}
 use Rattle.body_make.proofs.Unlinked.{one_refusal, no_refusal}

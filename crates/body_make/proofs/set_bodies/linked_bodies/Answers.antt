@@ -1,4 +1,4 @@
-use Rattle.std.proofs.Common.{◌≡◌, ◌+◌, ◌-◌, ◌<◌, inl, inr, ℕ, length, slice_get, Some, None, subst, arith}
+use Rattle.std.proofs.Common.{◌≡◌, ◌<◌, inl, inr, length, slice_get, Some, None, subst, arith}
 use Rattle.jvm_model.specs.Linking.{ClassLinks}
 use Rattle.body_make.specs.Refusals.{refusal_of}
 use Rattle.jvm_model.proofs.Scans.{decides_more, decides_here}

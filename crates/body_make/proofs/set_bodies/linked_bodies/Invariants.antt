@@ -1,4 +1,3 @@
-use Rattle.std.proofs.Common.{◌≡◌}
 use Rattle.jvm_model.specs.Linking.{ClassLinks}
 use Rattle.jvm_model.proofs.Scans.{Decides}
 use Rattle.body_make.proofs.ClassBodies.{CompletesClasses}
