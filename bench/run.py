@@ -250,10 +250,11 @@ def many_fields():
 # ---- types
 
 
-def typed(name, amount, unit, code, max_stack, max_locals):
+def typed(name, amount, unit, code, max_stack, max_locals, rows=()):
     """A class of this main, which is verified and need not run."""
     pool = make.Pool()
-    methods = [make.method(pool, "main", "()V", make.code_attribute(pool, code, max_stack, max_locals))]
+    attribute = make.code_attribute(pool, code, max_stack, max_locals, rows)
+    methods = [make.method(pool, "main", "()V", attribute)]
     classes = [make.class_bytes(pool, "Bench", methods)]
     return Case(name, amount, unit, classes, wanted=(0, 3))
 
@@ -273,6 +274,14 @@ def types_of_stores():
 
 def types_of_merges():
     return typed("types of 10,000 merges", 10000, "merge", b"\x03\x99\x00\x05\x03\x3b" * 10000 + b"\xb1", 1, 1)
+
+
+def types_of_handlers():
+    """Every row covers every instruction, and half of the instructions are handlers."""
+    half = 32767
+    rows = [(0, 65535, half + k % (half + 1), 0) for k in range(65535)]
+    code = b"\x00" * (half - 1) + b"\xb1" + b"\x00" * half + b"\xbf"
+    return typed("types of 65,535 rows", 65535, "row", code, 1, 0, rows)
 
 
 def all_cases(steps):
@@ -298,6 +307,7 @@ def all_cases(steps):
     yield types_of_pushes()
     yield types_of_stores()
     yield types_of_merges()
+    yield types_of_handlers()
 
 
 # ---- measuring
