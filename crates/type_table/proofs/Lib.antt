@@ -4,6 +4,8 @@ pub mod Growing
 mod Lists
 -- where an object that is not yet constructed is absent, a rename changes nothing
 mod Lacking
+-- how many ints there are among operands
+mod Counting
 -- steps down a chain of operands, and one more on it
 mod Chaining
 -- steps down a tree of locals, and new trees over others

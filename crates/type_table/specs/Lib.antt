@@ -5,3 +5,4 @@ pub mod Changes
 pub mod StoreLaws
 pub mod Merges
 pub mod Types
+pub mod Counts

@@ -12,6 +12,7 @@ mod merged_locals;
 mod merged_operands;
 mod objects;
 mod operands;
+mod shapes;
 mod store;
 mod trees;
 mod types;

@@ -1,6 +1,6 @@
 //! A store of frames of types that share what they have in common.
 
-ghost use Rattle.std.specs.Prelude.{◌≡◌, ◌≤◌, ◌^◌, ℕ, [], None, IfOk, length, slice_get};
+ghost use Rattle.std.specs.Prelude.{◌≡◌, ◌≤◌, ◌^◌, ℕ, [], None, IfOk, length, slice_get, take};
 ghost use Rattle.std.specs.List.{list_any};
 ghost use Rattle.class_tree.specs.Tree.{Gathers};
 ghost use Rattle.jvm_model.specs.TypesFrames.{IsKnownFrame};
@@ -157,6 +157,27 @@ impl Store {
         ensures { result ≡ list_any (is_same_object object) (frame_of self.now frame).stack }
     {
         has_object(self.cells.as_slice(), frame.chain(), object)
+    }
+
+    /// The operands of all frames.
+    pub(crate) fn cells(&self) -> &[Cell]
+        ensures { result.now ≡ self.now.cells }
+    {
+        self.cells.as_slice()
+    }
+
+    /// The top so many operands of a frame, the top first; all where it has fewer.
+    pub fn top_operands(
+        &self,
+        alloc: Global,
+        frame: FrameId,
+        count: usize,
+    ) -> Result<Vec<VType>, Memory>
+        requires { IsFrame self.now frame }
+        ensures { IfOk result (λ values. values.items ≡ take count (frame_of self.now frame).stack) }
+    {
+        let count = count.min(frame.height as usize) as u32;
+        top_values(alloc, self.cells.as_slice(), frame.chain(), count)
     }
 
     /// A frame, copied out.

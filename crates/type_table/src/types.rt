@@ -1,14 +1,18 @@
 //! The table of the types of a method.
 
-ghost use Rattle.std.specs.Prelude.{◌≡◌, ◌==◌, length, option_map, slice_get, IfOk};
+ghost use Rattle.std.specs.Prelude.{◌≡◌, ◌==◌, [], length, map, take, option_map, slice_get, IfOk};
+ghost use Rattle.std.specs.Option.{option_map_or};
 ghost use Rattle.std.specs.List.{AllByRecursion};
 ghost use Rattle.code_reach.specs.Reached.{RisesFrom};
 ghost use Rattle.code_reach.specs.Visits.{pcs_of, index_of as index_of_pc};
+ghost use Rattle.type_table.specs.Counts.{ints_in};
 ghost use Rattle.type_table.specs.Frames.{IsFrame};
 ghost use Rattle.type_table.specs.Types.{rows_of, table_of};
 
+use crate::shapes::int_counts;
 use crate::store::{FrameId, Memory, Store};
-use body_form::VFrame;
+use body_form::{VFrame, VType};
+use item_list::Items;
 use std::alloc::Global;
 use std::marker::Model;
 
@@ -79,6 +83,43 @@ impl Types {
             Some((pc, _)) => Some(pc),
             None => None,
         }
+    }
+
+    /// How many operands the row at an index has.
+    pub fn height_at(&self, index: usize) -> Option<usize>
+        ensures { result ≡ option_map (λ row. length row.1.stack) (slice_get self.now index) }
+    {
+        match row_at(self.rows.as_slice(), index) {
+            Some((_, id)) => Some(id.height as usize),
+            None => None,
+        }
+    }
+
+    /// The top so many operands of the row at an index, the top first: all where it has fewer, and none where there is
+    /// no row.
+    pub fn top_operands(
+        &self,
+        alloc: Global,
+        index: usize,
+        count: usize,
+    ) -> Result<Items<VType>, Memory>
+        ensures { IfOk result (λ values. values ≡ option_map_or (λ row. take count row.1.stack) (slice_get self.now index) []) }
+    {
+        match row_at(self.rows.as_slice(), index) {
+            Some((_, id)) => {
+                let values = self.store.top_operands(alloc, id, count)?;
+                Ok(Items::from_vec(values))
+            }
+            None => Ok(Items::empty(alloc)),
+        }
+    }
+
+    /// How many of the operands of each row are whole numbers; in time by the entries of the store and the rows.
+    pub fn operand_counts(&self, alloc: Global) -> Result<Items<u32>, Memory>
+        ensures { IfOk result (λ counts. counts ≡ map (λ row. ints_in row.1.stack) self.now) }
+    {
+        let counts = int_counts(alloc, self.store.cells(), self.rows.as_slice())?;
+        Ok(Items::from_vec(counts))
     }
 
     /// The frame of the row at an index.
