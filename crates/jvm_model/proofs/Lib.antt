@@ -42,3 +42,5 @@ pub mod OneBody
 pub mod StaticsSet
 -- a scan of a list for the first refusal, item by item: of tests, and of what each item has
 pub mod Scans
+-- the places of fields, by their members
+mod PlaceLists

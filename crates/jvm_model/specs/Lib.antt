@@ -39,3 +39,5 @@ pub mod WidthsFrame
 pub mod ImageNumbering
 pub mod ImageEmission
 pub mod ImageTables
+pub mod NumberedIds
+pub mod ImageLimits

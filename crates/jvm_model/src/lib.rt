@@ -11,13 +11,21 @@
 #![tactic(auto)]
 
 mod entries;
+mod id_lists;
+mod ids;
 mod laws;
 mod numbers;
+mod place_list;
 mod plan;
 mod refusal;
+mod selector_list;
 
 pub use entries::{Entry, Narrow};
+pub use id_lists::{MemberList, TypeList};
+pub use ids::Ids;
 pub use laws::{one_ending, one_linking, runs_leave_the_rest, statics_are_set};
 pub use numbers::{FieldPlace, Layout, Selector};
+pub use place_list::PlaceList;
 pub use plan::{Fill, Plan};
 pub use refusal::{Cause, Refusal};
+pub use selector_list::SelectorList;

@@ -1,7 +1,7 @@
 use class_pool::{MemberId, Text};
 
 /// The name and the descriptor of methods that calls select by.
-#[derive(Debug, Drop)]
+#[derive(Debug, Drop, PartialEq, Eq, Hash)]
 pub struct Selector {
     pub name: Text,
     pub descriptor: Text,
