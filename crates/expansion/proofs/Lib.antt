@@ -1,0 +1,5 @@
+pub mod Appended
+pub mod Windows
+pub mod Arguments
+pub mod Alike
+pub mod Rows

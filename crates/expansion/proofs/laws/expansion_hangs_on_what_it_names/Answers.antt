@@ -1,0 +1,9 @@
+use Rattle.expansion.proofs.Alike.{alike}
+use Rattle.expansion.proofs.Rows.{rows_told}
+use Rattle.expansion.proofs.laws.expansion_hangs_on_what_it_names.Goals as goal
+
+pub returns-clause-alike : goal.returns-clause-alike
+returns-clause-alike c = alike
+
+pub returns-clause-rows : goal.returns-clause-rows
+returns-clause-rows c = rows_told
