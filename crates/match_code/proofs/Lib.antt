@@ -1,0 +1,10 @@
+-- an expansion has as many bytes wherever its jumps lead
+pub mod ExpansionSizes
+-- where expansions stand in the code, and how offsets grow
+pub mod CodeLayout
+-- what code follows at a point within an expansion
+pub mod CodePoints
+-- the move at a machine instruction, and going on over it
+pub mod CodeMoves
+-- where frames that match stand
+pub mod MatchedCode

@@ -1,0 +1,43 @@
+-- Where a frame of the split machine stands within the code of a compiled body.
+use Rattle.std.specs.Prelude.{◌≡◌, ℕ, ◌+◌, List, ◌∷◌, ◌++◌, length, Some}
+use Rattle.std.specs.List.{Contains, flat_map}
+use Rattle.image_instr.specs.declared.insn.MInsn.{MInsn}
+use Rattle.image_instr.specs.declared.insn.SwitchRow.{SwitchRow}
+use Rattle.body_form.specs.declared.body.Body.{Body}
+use Rattle.body_form.specs.declared.op.Op.{Op}
+use Rattle.jvm_model.specs.ImageEmission.{expansion_at, offset_of}
+use Rattle.jvm_model.specs.ImageExpansion.{Emitted, bytes_of}
+use Rattle.jvm_model.specs.TypesRules.{op_at}
+use Rattle.jvm_model.specs.WidthsFrame.{fill_insns}
+use Rattle.mote_model.specs.State.{Frame}
+use Rattle.type_safety.specs.Safety.{method_of}
+use Rattle.match_states.specs.Setting.{Setting, source_for, id_for}
+
+-- the machine instructions of the instruction at a pc
+abbrev pub emitted_at : Setting → Body → ℕ → Op → List Emitted
+emitted_at setting body pc instruction = expansion_at (source_for setting body) (offset_of (source_for setting body)) (pc, instruction)
+
+-- those that extend the parameters of a body at entry
+abbrev pub fills_for : Setting → Body → List Emitted
+fills_for setting body = flat_map fill_insns (source_for setting body).plan.fills
+
+-- The frame stands in the expansion of the instruction at a pc: behind the first of its machine instructions, at this one,
+-- before the rest.
+pub record StandsInExpansion (setting : Setting) (body : Body) (frame : Frame) (pc : ℕ) (instruction : Op) (first : List Emitted) (insn : MInsn) (rows : List SwitchRow) (rest : List Emitted) : Type 0 where
+  pub of_set : Contains setting.world.bodies body
+  pub method : frame.method ≡ id_for setting (method_of body)
+  pub at : op_at body.ops pc ≡ Some instruction
+  pub emitted : emitted_at setting body pc instruction ≡ first ++ (insn, rows) ∷ rest
+  pub place : frame.pc ≡ offset_of (source_for setting body) pc + length (bytes_of first)
+
+-- the same at entry, among what extends parameters
+pub record StandsInFills (setting : Setting) (body : Body) (frame : Frame) (first : List Emitted) (insn : MInsn) (rows : List SwitchRow) (rest : List Emitted) : Type 0 where
+  pub of_set : Contains setting.world.bodies body
+  pub method : frame.method ≡ id_for setting (method_of body)
+  pub emitted : fills_for setting body ≡ first ++ (insn, rows) ∷ rest
+  pub place : frame.pc ≡ length (bytes_of first)
+
+-- a frame that went on over the instruction at which another one stands
+pub record WentOver (frame other : Frame) (size : ℕ) : Type 0 where
+  pub method : other.method ≡ frame.method
+  pub pc : other.pc ≡ frame.pc + size
