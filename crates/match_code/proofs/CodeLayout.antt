@@ -97,17 +97,17 @@ after_from low ((at, here) ∷ (to, there) ∷ ops) rise pc next is =
 -- ---- sizes below a pc
 
 module _ (source : Source) where
-  below_none : (pc : ℕ) → size_below source [] pc ≡ 0
+  pub below_none : (pc : ℕ) → size_below source [] pc ≡ 0
   unfolding size_below
   below_none pc = refl
 
-  below_first : (x : ℕ × Op) (ops : Ops) (pc : ℕ) → pc ≤ x.0 → size_below source (x ∷ ops) pc ≡ 0
+  pub below_first : (x : ℕ × Op) (ops : Ops) (pc : ℕ) → pc ≤ x.0 → size_below source (x ∷ ops) pc ≡ 0
   unfolding size_below
   below_first x ops pc le =
       let fails : nat_lt x.0 pc ≡ false = grind (arith, nat_tests, le) in
       ap (λ b. if b then size_at source x + size_below source ops pc else 0) fails
 
-  below_later : (x : ℕ × Op) (ops : Ops) (pc : ℕ) → x.0 < pc → size_below source (x ∷ ops) pc ≡ size_at source x + size_below source ops pc
+  pub below_later : (x : ℕ × Op) (ops : Ops) (pc : ℕ) → x.0 < pc → size_below source (x ∷ ops) pc ≡ size_at source x + size_below source ops pc
   unfolding size_below
   below_later x ops pc lt =
       let passes : nat_lt x.0 pc ≡ true = grind (arith, nat_tests, lt) in

@@ -8,3 +8,5 @@ pub mod CodePoints
 pub mod CodeMoves
 -- where frames that match stand
 pub mod MatchedCode
+-- offsets are in the order of pcs
+pub mod CodeOrder
