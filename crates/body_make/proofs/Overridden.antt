@@ -6,7 +6,7 @@ use Rattle.class_file.specs.declared.record.ClassFile.{ClassFile}
 use Rattle.class_tree.specs.Set.{IsClass}
 use Rattle.class_tree.specs.Members.{Declaration, member_at}
 use Rattle.class_tree.specs.Overriding.{overridden, is_bad_override}
-use Rattle.class_tree.proofs.FoundMembers.{found_members}
+use Rattle.class_tree.proofs.lookups.FoundMembers.{found_members}
 use Rattle.jvm_model.specs.Overrides.{is_special_name, overrides_badly}
 
 pub overridden_class : (files : List ClassFile) (name descriptor : List ℕ) (class : ℕ) (upper : MemberId) → Some upper ≡ overridden files name descriptor class → IsClass files upper.class

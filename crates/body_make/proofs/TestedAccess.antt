@@ -6,7 +6,7 @@ use Rattle.class_file.specs.declared.record.ClassFile.{ClassFile}
 use Rattle.class_tree.specs.Subtypes.{IsSubclass}
 use Rattle.class_tree.specs.Access.{IsAllowed}
 use Rattle.class_tree.specs.AccessTests.{is_subclass, is_allowed}
-use Rattle.class_tree.proofs.TestedAccess.{subclass_says, allowed_says}
+use Rattle.class_tree.proofs.lookups.TestedAccess.{subclass_says, allowed_says}
 
 -- what is true exactly where the relation holds is the test
 same_test : {P : Type 0} (found test : Bool) → MatchBool found P (P → ⊥) → (test ≡ true) ↔ P → found ≡ test

@@ -6,7 +6,7 @@ use Rattle.body_make.specs.Names.{IsUnlinked}
 use Rattle.jvm_model.specs.declared.refusal.Refusal.{Refusal}
 use Rattle.jvm_model.specs.Linking.{Linking}
 use Rattle.jvm_model.specs.Entry.{entry_refusal}
-use Rattle.jvm_model.proofs.OneLinking.{linking_unique}
+use Rattle.jvm_model.proofs.phases.OneLinking.{linking_unique}
 
 module _ (files : List ClassFile) where
   not_both : (why : Refusal) → Linking files None → Linking files (Some why) → ⊥

@@ -10,8 +10,8 @@ use Rattle.class_tree.specs.Closure.{Edges, leads_over}
 use Rattle.class_tree.specs.Set.{own_name, is_directly_below}
 use Rattle.class_tree.specs.Circles.{IsCircular, IsFirstCircular, Circles}
 use Rattle.class_tree.specs.Tree.{Phase, FirstRefusal, NoCircles, phases, Gathers}
-use Rattle.class_tree.proofs.Leading.{sound, complete}
-use Rattle.class_tree.proofs.Within.{stays_below}
+use Rattle.class_tree.proofs.ancestors.Leading.{sound, complete}
+use Rattle.class_tree.proofs.tables.Within.{stays_below}
 
 -- ---- the first number of which something holds
 

@@ -9,9 +9,9 @@ use Rattle.image_instr.specs.declared.insn.MInsn.{MInsn}
 use Rattle.image_instr.specs.declared.insn.MInsn.TheVariants.{Const1, Const2, Small1, Small2, Mid2, Null, Load, Store, RClear, Inc, RDupX, DupX, RPop, Pop, RSwap, Swap, Drop, Bin, Neg, Sx, Zx, Sb, Bit, Jz, JCmp, RJ, Goto, Switch, Table, Ret, GetS, PutS, GetF, PutF, NewArr, Multi, ALen, ALoad, AStore, New, Cast, Inst, Throw, CallS, CallX, CallV, CallI}
 use Rattle.image_instr.specs.Insn.{insn_bytes, IsAtPrefix}
 use Rattle.image_instr.specs.Reading.{Found, insn_at, rows_at, rows_in, targets_in}
-use Rattle.image_instr.proofs.Bytes.{IsBytes, IsBytes-drop}
-use Rattle.image_instr.proofs.Rows.{size_of_rows, size_of_targets}
-use Rattle.image_instr.proofs.Decode.{found_holds, prefix_parts}
+use Rattle.image_instr.proofs.encoding.Bytes.{IsBytes, IsBytes-drop}
+use Rattle.image_instr.proofs.switches.Rows.{size_of_rows, size_of_targets}
+use Rattle.image_instr.proofs.encoding.Decode.{found_holds, prefix_parts}
 use Rattle.image_check.specs.Code.{targets}
 use Rattle.image_check.specs.Targets.{target_count, successor_count, HoldsAt}
 use Rattle.image_check.specs.Visits.{goes_on, successors}

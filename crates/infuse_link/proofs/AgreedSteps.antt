@@ -10,8 +10,8 @@ use Rattle.image_instr.specs.declared.insn.SwitchRow.{SwitchRow}
 use Rattle.image_instr.specs.declared.insn.MInsn.{MInsn}
 use Rattle.image_instr.specs.Insn.{insn_bytes, IsInsn}
 use Rattle.image_instr.specs.Reading.{insn_at}
-use Rattle.image_instr.proofs.Again.{insn_at-again}
-use Rattle.image_instr.proofs.EncodingIsInjective.{rows_are}
+use Rattle.image_instr.proofs.encoding.Again.{insn_at-again}
+use Rattle.image_instr.proofs.encoding.EncodingIsInjective.{rows_are}
 use Rattle.jvm_model.specs.Body.{Body}
 use Rattle.jvm_model.specs.ImageOf.{image_of, code_for}
 use Rattle.jvm_model.specs.State as typed

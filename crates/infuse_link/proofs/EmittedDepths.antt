@@ -9,7 +9,7 @@ use Rattle.image_instr.specs.declared.insn.SwitchRow as image_row
 use Rattle.image_instr.specs.declared.insn.MInsn.{MInsn}
 use Rattle.image_instr.specs.Insn.{insn_bytes, IsInsn}
 use Rattle.image_instr.specs.Reading.{insn_at}
-use Rattle.image_instr.proofs.Again.{insn_at-again}
+use Rattle.image_instr.proofs.encoding.Again.{insn_at-again}
 use Rattle.image_form.specs.declared.record.Image.{Image}
 use Rattle.image_form.specs.declared.record.Method.{Method}
 use Rattle.image_check.specs.Code.{Insns, targets}

@@ -5,7 +5,7 @@ use Rattle.insn_form.specs.declared.SwitchForm.{SwitchForm}
 use Rattle.insn_form.specs.declared.SwitchForm.TheVariants as switch
 use Rattle.insn_form.specs.declared.SwitchRow.{SwitchRow}
 use Rattle.image_instr.specs.Insn.{insn_bytes}
-use Rattle.image_instr.proofs.Rows.{size_of_rows, size_of_targets}
+use Rattle.image_instr.proofs.switches.Rows.{size_of_rows, size_of_targets}
 use Rattle.jvm_model.specs.State.{Whole, Null, Name}
 use Rattle.jvm_model.specs.Program.{OfLibrary, Family, Nop, Const, Load, Store, Inc, Stack, Bin, Negate, Convert, If, IfCmp, Goto, Switch, CallStatic, Return}
 use Rattle.jvm_model.specs.Expansion.{moved_row, switch_insn, family_bytes, size_of}

@@ -9,7 +9,7 @@ use Rattle.image_form.specs.declared.record.Image.{Image}
 use Rattle.image_form.specs.declared.record.Method.{Method}
 use Rattle.image_form.specs.Grammar.{IsClass, IsImage}
 use Rattle.image_form.specs.SmallForm.{small_class, small_method, small_image, IsSmall}
-use Rattle.image_form.proofs.SmallImage.{small_is_image}
+use Rattle.image_form.proofs.format.SmallImage.{small_is_image}
 use Rattle.image_check.specs.BuiltForm.{has_built_form}
 use Rattle.image_check.specs.Checked.{IsChecked, IsBuilt}
 use Rattle.jvm_model.specs.Program.{Family}

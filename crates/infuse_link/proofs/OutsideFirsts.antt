@@ -9,7 +9,7 @@ use Rattle.class_file.specs.declared.record.ClassFile.{ClassFile}
 use Rattle.class_file.specs.declared.record.CodeAttr.{CodeAttr}
 use Rattle.class_file.specs.declared.record.HandlerRow.{HandlerRow}
 use Rattle.class_file.specs.ReadingClass.{class_of}
-use Rattle.class_file.proofs.Whole.{file_again}
+use Rattle.class_file.proofs.layout.Whole.{file_again}
 use Rattle.class_code.specs.declared.insn.Insn.{Insn}
 use Rattle.class_code.specs.Code.{Insns, decoded}
 use Rattle.class_code.specs.Flow.{code_ways}

@@ -6,7 +6,7 @@ use Rattle.class_file.specs.declared.record.ClassFile.{ClassFile}
 use Rattle.class_file.specs.declared.refusal.ReadRefusal.{ReadRefusal}
 use Rattle.class_file.specs.Relation.{IsClassFile}
 use Rattle.class_file.specs.ReadingClass.{class_of}
-use Rattle.class_file.proofs.Whole.{file_again}
+use Rattle.class_file.proofs.layout.Whole.{file_again}
 use Rattle.jvm_model.specs.declared.refusal.Refusal.{Refusal}
 use Rattle.jvm_model.specs.Phases.{first_refusal, unless_read, reading_refusal, record_in}
 use Rattle.jvm_model.specs.BuiltForm.{IfThere}

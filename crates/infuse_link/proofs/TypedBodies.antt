@@ -9,7 +9,7 @@ use Rattle.jvm_model.specs.BuiltForm.{FirstOf}
 use Rattle.jvm_model.specs.Bodies.{AreEach, Coded, IsBody, AreBodies, coded_methods}
 use Rattle.jvm_model.specs.TypesNames.{IsOfSet}
 use Rattle.jvm_model.specs.Verification.{BodyTypes, MethodTypes, HasBody, Typing, IsClosed}
-use Rattle.jvm_model.proofs.BodyNames.{of_set}
+use Rattle.jvm_model.proofs.bodies.BodyNames.{of_set}
 use Rattle.set_laws.proofs.CodedMethods.{StandsIn, methods_stand}
 
 -- the first of these methods that is refused

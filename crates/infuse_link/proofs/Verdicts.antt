@@ -7,7 +7,7 @@ use Rattle.class_file.specs.declared.record.ClassFile.{ClassFile}
 use Rattle.class_file.specs.declared.record.CodeAttr.{CodeAttr}
 use Rattle.class_file.specs.Relation.{IsClassFile}
 use Rattle.class_file.specs.OneMain.{HasOneMainRecord, IsOneMain}
-use Rattle.class_file.proofs.Whole.{one_record}
+use Rattle.class_file.proofs.layout.Whole.{one_record}
 use Rattle.class_tree.specs.declared.refusal.TreeRefusal.TheVariants.{TooMany}
 use Rattle.class_tree.specs.Scan.{saturated as tree_saturated}
 use Rattle.image_form.specs.declared.record.Image.{Image}

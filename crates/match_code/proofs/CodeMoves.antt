@@ -7,8 +7,8 @@ use Rattle.image_instr.specs.declared.insn.MInsn.{MInsn}
 use Rattle.image_instr.specs.declared.insn.SwitchRow.{SwitchRow}
 use Rattle.image_instr.specs.Insn.{insn_bytes, IsInsn}
 use Rattle.image_instr.specs.Reading.{insn_at, rows_at}
-use Rattle.image_instr.proofs.Again.{insn_at-again}
-use Rattle.image_instr.proofs.EncodingIsInjective.{rows_are}
+use Rattle.image_instr.proofs.encoding.Again.{insn_at-again}
+use Rattle.image_instr.proofs.encoding.EncodingIsInjective.{rows_are}
 use Rattle.image_form.specs.declared.record.Image.{Image}
 use Rattle.image_form.specs.declared.record.Method.{Method}
 use Rattle.body_form.specs.declared.body.Body.{Body}

@@ -9,7 +9,7 @@ use Rattle.image_instr.specs.declared.insn.MInsn.{MInsn}
 use Rattle.image_instr.specs.declared.insn.SwitchRow.{SwitchRow}
 use Rattle.image_instr.specs.Insn.{insn_bytes, IsInsn}
 use Rattle.image_instr.specs.Reading.{insn_at}
-use Rattle.image_instr.proofs.Again.{insn_at-again}
+use Rattle.image_instr.proofs.encoding.Again.{insn_at-again}
 use Rattle.body_form.specs.declared.body.Body.{Body}
 use Rattle.body_form.specs.declared.body.Guard.{Guard}
 use Rattle.body_form.specs.declared.op.Op.{Op}

@@ -7,7 +7,7 @@ use Rattle.insn_form.specs.declared.SwitchForm.TheVariants as switch
 use Rattle.insn_form.specs.declared.SwitchRow.{SwitchRow}
 use Rattle.image_instr.specs.declared.insn.Width.{Width}
 use Rattle.image_instr.specs.Insn.{insn_bytes}
-use Rattle.image_instr.proofs.Rows.{size_of_rows, size_of_targets}
+use Rattle.image_instr.proofs.switches.Rows.{size_of_rows, size_of_targets}
 use Rattle.body_form.specs.declared.op.Op.{Op}
 use Rattle.body_form.specs.declared.op.Op.TheVariants as op
 use Rattle.jvm_model.specs.WidthsShapes.{Point, point_at}

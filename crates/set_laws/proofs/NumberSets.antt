@@ -13,7 +13,7 @@ use Rattle.jvm_model.specs.Verification.{Verification}
 use Rattle.jvm_model.specs.FrameSize.{FrameSize, most_frame_cells}
 use Rattle.jvm_model.specs.CodeLength.{CodeLength, most_code_bytes}
 use Rattle.jvm_model.specs.Verdict.{Accepted}
-use Rattle.jvm_model.proofs.EarlyPhases.{PassesEarly, no_early}
+use Rattle.jvm_model.proofs.phases.EarlyPhases.{PassesEarly, no_early}
 use Rattle.set_laws.proofs.VerdictLaws.{same_cells, same_size}
 
 -- the set is one such file, and main's frame and machine code keep to their limits

@@ -22,8 +22,8 @@ use Rattle.jvm_model.specs.FrameSize.{cells_of}
 use Rattle.jvm_model.specs.Verdict.{Accepted}
 use Rattle.jvm_model.specs.SetRun.{Run, LimitedRun, is_want, IsPrefix}
 use Rattle.jvm_model.specs.SetImage.{IsImageOf}
-use Rattle.jvm_model.proofs.NumberRuns.{number_main_ends}
-use Rattle.jvm_model.proofs.LinkedSets.{one_linked}
+use Rattle.jvm_model.proofs.runs.NumberRuns.{number_main_ends}
+use Rattle.jvm_model.proofs.phases.LinkedSets.{one_linked}
 use Rattle.set_laws.proofs.VerdictLaws.{linked_of, same_cells}
 
 -- ---- limits

@@ -14,10 +14,10 @@ use Rattle.jvm_model.specs.Bodies.{Coded, IsBody, coded_methods}
 use Rattle.jvm_model.specs.TypesNames.{IsOfSet}
 use Rattle.jvm_model.specs.TypesRounds.{IsFailing, table_before}
 use Rattle.jvm_model.specs.Verification.{unverified_at, BodyTypes, MethodTypes, HasBody, HasNone, Typing, IsClosed, IsOpen, Verification}
-use Rattle.jvm_model.proofs.BodyNames.{of_set}
-use Rattle.jvm_model.proofs.Decisions.{Decided}
-use Rattle.jvm_model.proofs.FirstAnswers.{IsOne, IsSome, one_there, some_there}
-use Rattle.jvm_model.proofs.OneBody.{one_body, some_body}
+use Rattle.jvm_model.proofs.bodies.BodyNames.{of_set}
+use Rattle.jvm_model.proofs.phases.Decisions.{Decided}
+use Rattle.jvm_model.proofs.phases.FirstAnswers.{IsOne, IsSome, one_there, some_there}
+use Rattle.jvm_model.proofs.bodies.OneBody.{one_body, some_body}
 use Rattle.type_rounds.specs.RoundLaws.{at_instructions, IsQuiet, QuietIsLeast, FailingHasNoRight, RoundsEnd, OneFailing}
 use Rattle.set_laws.proofs.CodedMethods.{StandsIn, methods_stand}
 

@@ -17,12 +17,12 @@ use Rattle.jvm_model.specs.BuiltForm.{BuiltForm, OutsideFile}
 use Rattle.jvm_model.specs.FrameSize.{FrameSize, most_frame_cells, cells_of}
 use Rattle.jvm_model.specs.CodeLength.{CodeLength, most_code_bytes, bytes_of}
 use Rattle.jvm_model.specs.Verdict.{phases, Verdict, Accepted, AreBytes, IsFunction, AreFunctions}
-use Rattle.jvm_model.proofs.ClosedSets.{closed_total, closed_unique}
-use Rattle.jvm_model.proofs.Decisions.{Decided}
-use Rattle.jvm_model.proofs.FirstOutside.{one_named, outside_file_one, some_named}
-use Rattle.jvm_model.proofs.OneLinking.{members_total, members_unique, entry_total, entry_unique}
-use Rattle.jvm_model.proofs.LinkedSets.{one_linked, decide_linked}
-use Rattle.jvm_model.proofs.PhaseLists.{first_total, first_unique}
+use Rattle.jvm_model.proofs.phases.ClosedSets.{closed_total, closed_unique}
+use Rattle.jvm_model.proofs.phases.Decisions.{Decided}
+use Rattle.jvm_model.proofs.phases.FirstOutside.{one_named, outside_file_one, some_named}
+use Rattle.jvm_model.proofs.phases.OneLinking.{members_total, members_unique, entry_total, entry_unique}
+use Rattle.jvm_model.proofs.phases.LinkedSets.{one_linked, decide_linked}
+use Rattle.jvm_model.proofs.phases.PhaseLists.{first_total, first_unique}
 use Rattle.type_rounds.proofs.Rounds.{quiet_is_least, failing_has_no_right, rounds_end, one_failing}
 use Rattle.set_laws.proofs.TypedSets.{verification_total, verification_unique}
 

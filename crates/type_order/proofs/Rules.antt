@@ -23,11 +23,11 @@ use Rattle.jvm_model.specs.TypesNames.{NamesKnown, IsOfSet}
 use Rattle.jvm_model.specs.TypesRules.{Change, changed, is_this, op_at, change_of, is_within, is_last, where_within, frame_after}
 use Rattle.jvm_model.specs.TypesRight.{entered}
 use Rattle.type_order.specs.OrderLaws.{IsProper, LacksThis, StartIsProper, AfterIsProper, EnteredIsProper, RulesAreMonotone, EnteredIsAbove, AfterIsKnown}
-use Rattle.type_order.proofs.Frames.{above_parts, above_whole, proper-is-above}
-use Rattle.type_order.proofs.Pairs.{IsLocalPair, IsOperandPair, ArePaired, paired, paired_above, paired_proper}
-use Rattle.type_order.proofs.Values.{IsFresh, class_fresh, parameter_known, parameter_lacks}
-use Rattle.type_order.proofs.Moves.{IsRule, where_true, all_append}
-use Rattle.type_order.proofs.RuleOf.{rule_is}
+use Rattle.type_order.proofs.merges.Frames.{above_parts, above_whole, proper-is-above}
+use Rattle.type_order.proofs.families.Pairs.{IsLocalPair, IsOperandPair, ArePaired, paired, paired_above, paired_proper}
+use Rattle.type_order.proofs.families.Values.{IsFresh, class_fresh, parameter_known, parameter_lacks}
+use Rattle.type_order.proofs.families.Moves.{IsRule, where_true, all_append}
+use Rattle.type_order.proofs.families.RuleOf.{rule_is}
 
 -- ---- the instruction at a pc
 

@@ -1,12 +1,12 @@
 -- What rounds find, by the laws of the crates below.
-use Rattle.class_tree.proofs.MergeLaws.{commutes, associates, stays}
-use Rattle.type_order.proofs.Frames.{merges-are-above, merges-are-least, above-goes-on, above-is-one-way, proper-is-above, merge-is-proper}
+use Rattle.class_tree.proofs.merging.MergeLaws.{commutes, associates, stays}
+use Rattle.type_order.proofs.merges.Frames.{merges-are-above, merges-are-least, above-goes-on, above-is-one-way, proper-is-above, merge-is-proper}
 use Rattle.type_order.proofs.Rules.{rules-are-monotone, entered-is-above, start-is-proper, after-is-proper, entered-is-proper, after-is-known}
 use Rattle.type_rounds.specs.RoundLaws.{QuietIsLeast, FailingHasNoRight, RoundsEnd, OneFailing, OneLeast}
-use Rattle.type_rounds.proofs.Ordered.{IsOrdered}
-use Rattle.type_rounds.proofs.ClassRanks.{TypesMerge}
-use Rattle.type_rounds.proofs.FirstAnswers as first
-use Rattle.type_rounds.proofs.RoundsEnd as last
+use Rattle.type_rounds.proofs.tables.Ordered.{IsOrdered}
+use Rattle.type_rounds.proofs.ranks.ClassRanks.{TypesMerge}
+use Rattle.type_rounds.proofs.tables.FirstAnswers as first
+use Rattle.type_rounds.proofs.ranks.RoundsEnd as last
 
 pub ordered : IsOrdered
 ordered =

@@ -4,9 +4,9 @@ use Rattle.typed_machine.specs.TypedState.{State}
 use Rattle.typed_machine.specs.TypedWorld.{World}
 use Rattle.type_safety.specs.Fitting.{Tables, StateFits}
 use Rattle.type_safety.specs.Safety.{MoveFits, GoesOnTo, Here, Next, IsSafe, TypedCodeIsSafe, IsSet}
-use Rattle.type_safety.proofs.AllMoves.{moves_fit}
-use Rattle.type_safety.proofs.PartsHold.{are_parts}
-use Rattle.type_safety.proofs.PhaseFacts.{phases_give_facts}
+use Rattle.type_safety.proofs.moves.AllMoves.{moves_fit}
+use Rattle.type_safety.proofs.fitting.PartsHold.{are_parts}
+use Rattle.type_safety.proofs.facts.PhaseFacts.{phases_give_facts}
 
 safe_on : (world : World) (tables : Tables) → IsSet world tables → (first later : State) → StateFits world tables first → GoesOnTo world first later → IsSafe world tables later
 safe_on world tables set first later fits Here = record { fits = fits; moves = moves_fit are_parts world tables set first fits }

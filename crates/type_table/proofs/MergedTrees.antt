@@ -6,7 +6,7 @@ use Rattle.class_file.specs.declared.record.ClassFile.{ClassFile}
 use Rattle.class_tree.specs.Tree.{Gathers}
 use Rattle.class_tree.specs.Merge.{merge}
 use Rattle.class_tree.specs.MergeLaws.{IsKnown}
-use Rattle.class_tree.proofs.MergeLaws.{stays}
+use Rattle.class_tree.proofs.merging.MergeLaws.{stays}
 use Rattle.body_form.specs.declared.types.VType.{VType}
 use Rattle.jvm_model.specs.TypesFrames.{may_be_local, merge_lists}
 use Rattle.type_table.specs.declared.store.Branch.{Branch}

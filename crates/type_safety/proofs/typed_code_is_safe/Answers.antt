@@ -1,6 +1,6 @@
-use Rattle.type_safety.proofs.AllMoves.{moves_fit}
-use Rattle.type_safety.proofs.PartsHold.{are_parts}
-use Rattle.type_safety.proofs.PhaseFacts.{phases_give_facts}
+use Rattle.type_safety.proofs.moves.AllMoves.{moves_fit}
+use Rattle.type_safety.proofs.fitting.PartsHold.{are_parts}
+use Rattle.type_safety.proofs.facts.PhaseFacts.{phases_give_facts}
 use Rattle.type_safety.proofs.SafeRuns.{safe_runs}
 use Rattle.type_safety.proofs.typed_code_is_safe.Goals as goal
 

@@ -4,7 +4,7 @@ use Rattle.jvm_model.specs.Linking.{row_refusal}
 use Rattle.jvm_model.specs.Bodies.{IsGuard}
 use Rattle.body_make.specs.Refusals.{refusal_of}
 use Rattle.body_make.proofs.Adding.{within, completes_more, completes_end}
-use Rattle.jvm_model.proofs.Scans.{scan_more, scan_here, scan_end}
+use Rattle.jvm_model.proofs.phases.Scans.{scan_more, scan_here, scan_end}
 use Rattle.body_make.proofs.Placed.{row_none, row_some}
 use Rattle.body_make.proofs.code.guards_of.Goals as goal
 

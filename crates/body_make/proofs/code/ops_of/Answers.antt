@@ -5,7 +5,7 @@ use Rattle.jvm_model.specs.Linking.{NamesOf}
 use Rattle.jvm_model.specs.Bodies.{IsFamily}
 use Rattle.body_make.specs.Refusals.{refusal_of}
 use Rattle.body_make.proofs.Adding.{completes_more, completes_end}
-use Rattle.jvm_model.proofs.Scans.{decides_more, decides_here}
+use Rattle.jvm_model.proofs.phases.Scans.{decides_more, decides_here}
 use Rattle.body_make.proofs.Placed.{flag_at, flags_length, named_none, named_some, family_of}
 use Rattle.body_make.proofs.code.ops_of.Goals as goal
 

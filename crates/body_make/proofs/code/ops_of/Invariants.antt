@@ -3,7 +3,7 @@ use Rattle.class_code.specs.Flow.{code_ways}
 use Rattle.jvm_model.specs.Linking.{NamesOf}
 use Rattle.jvm_model.specs.Bodies.{IsFamily}
 use Rattle.body_make.proofs.Adding.{Completes}
-use Rattle.jvm_model.proofs.Scans.{Decides}
+use Rattle.jvm_model.proofs.phases.Scans.{Decides}
 use Rattle.body_make.proofs.code.ops_of.Given as goal
 
 -- what is found in the instructions that are left is found in all, and their families complete those that are

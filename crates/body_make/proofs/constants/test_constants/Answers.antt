@@ -4,7 +4,7 @@ use Rattle.jvm_model.specs.Initialisers.{has_bad_constant}
 use Rattle.jvm_model.specs.Linking.{constant_refusal}
 use Rattle.jvm_model.specs.declared.refusal.Cause.TheVariants.{BadInitialiser}
 use Rattle.body_make.specs.Refusals.{refusal_of}
-use Rattle.jvm_model.proofs.Scans.{scan_more, scan_here, scan_end}
+use Rattle.jvm_model.proofs.phases.Scans.{scan_more, scan_here, scan_end}
 use Rattle.body_make.proofs.Refusing.{refused_where, passed_where}
 use Rattle.body_make.proofs.constants.test_constants.Goals as goal
 

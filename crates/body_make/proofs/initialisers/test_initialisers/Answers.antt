@@ -1,7 +1,7 @@
 use Rattle.std.proofs.Common.{◌-◌, inr, sym, ◌∙◌}
 use Rattle.jvm_model.specs.Linking.{initialiser_refusal}
 use Rattle.body_make.specs.Refusals.{refusal_of}
-use Rattle.jvm_model.proofs.Scans.{scan_more, scan_here, scan_end}
+use Rattle.jvm_model.proofs.phases.Scans.{scan_more, scan_here, scan_end}
 use Rattle.body_make.proofs.Initialised.{no_fault, fault_refused}
 use Rattle.body_make.proofs.initialisers.test_initialisers.Goals as goal
 

@@ -2,7 +2,7 @@ use Rattle.std.proofs.Common.{◌-◌, inl, inr}
 use Rattle.class_code.specs.Flow.{code_ways}
 use Rattle.body_make.specs.Refusals.{refusal_of}
 use Rattle.body_make.proofs.CodeNamed.{code_none, code_first, code_second}
-use Rattle.jvm_model.proofs.FamiliesRise.{families_rise}
+use Rattle.jvm_model.proofs.bodies.FamiliesRise.{families_rise}
 use Rattle.body_make.proofs.method.insns_body.Goals as goal
 
 pub returns-in-Err-clause-refused : goal.returns-in-Err-clause-refused

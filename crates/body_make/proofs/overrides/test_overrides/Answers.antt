@@ -5,7 +5,7 @@ use Rattle.jvm_model.specs.Overrides.{overrides_badly}
 use Rattle.jvm_model.specs.Linking.{override_refusal}
 use Rattle.jvm_model.specs.declared.refusal.Cause.TheVariants.{BadOverride}
 use Rattle.body_make.specs.Refusals.{refusal_of}
-use Rattle.jvm_model.proofs.Scans.{scan_more, scan_here, scan_end}
+use Rattle.jvm_model.proofs.phases.Scans.{scan_more, scan_here, scan_end}
 use Rattle.body_make.proofs.Refusing.{refused_own, passed_own}
 use Rattle.body_make.proofs.overrides.test_overrides.Goals as goal
 

@@ -1,6 +1,6 @@
 use Rattle.std.proofs.Common.{◌-◌}
 use Rattle.jvm_model.specs.Linking.{MethodNames}
-use Rattle.jvm_model.proofs.Scans.{decides_more}
+use Rattle.jvm_model.proofs.phases.Scans.{decides_more}
 use Rattle.body_make.proofs.ClassBodies.{methods_more, methods_end}
 use Rattle.body_make.proofs.set_bodies.add_methods.Goals as goal
 

@@ -1,6 +1,6 @@
 use Rattle.std.proofs.Common.{◌-◌}
 use Rattle.jvm_model.specs.Linking.{MethodNames}
-use Rattle.jvm_model.proofs.Scans.{Decides}
+use Rattle.jvm_model.proofs.phases.Scans.{Decides}
 use Rattle.body_make.proofs.ClassBodies.{CompletesMethods}
 use Rattle.body_make.proofs.set_bodies.add_methods.Given as goal
 

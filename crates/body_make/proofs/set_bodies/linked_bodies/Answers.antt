@@ -1,7 +1,7 @@
 use Rattle.std.proofs.Common.{◌≡◌, ◌<◌, inl, inr, length, slice_get, Some, None, subst, arith}
 use Rattle.jvm_model.specs.Linking.{ClassLinks}
 use Rattle.body_make.specs.Refusals.{refusal_of}
-use Rattle.jvm_model.proofs.Scans.{decides_more, decides_here}
+use Rattle.jvm_model.proofs.phases.Scans.{decides_more, decides_here}
 use Rattle.body_make.proofs.ClassBodies.{own_position, item_at, classes_more, classes_end}
 use Rattle.body_make.proofs.set_bodies.linked_bodies.Goals as goal
 

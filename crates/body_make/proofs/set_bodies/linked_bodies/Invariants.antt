@@ -1,5 +1,5 @@
 use Rattle.jvm_model.specs.Linking.{ClassLinks}
-use Rattle.jvm_model.proofs.Scans.{Decides}
+use Rattle.jvm_model.proofs.phases.Scans.{Decides}
 use Rattle.body_make.proofs.ClassBodies.{CompletesClasses}
 use Rattle.body_make.proofs.set_bodies.linked_bodies.Given as goal
 

@@ -1,5 +1,5 @@
 use Rattle.std.proofs.Common.{sym}
-use Rattle.class_tree.proofs.FoundMembers.{found_members}
+use Rattle.class_tree.proofs.lookups.FoundMembers.{found_members}
 use Rattle.body_make.proofs.uppers.lacks_body.Goals as goal
 
 pub has_code-requires : goal.has_code-requires

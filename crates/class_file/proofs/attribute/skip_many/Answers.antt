@@ -3,7 +3,7 @@ use Rattle.std.proofs.lemmas.Result.{err_from_is_err_and}
 use Rattle.byte_read.specs.Reading.{steps_at}
 use Rattle.class_file.specs.ReadingMembers.{skip_at, skipped}
 use Rattle.byte_read.proofs.Loop.{goes_on, is_done}
-use Rattle.class_file.proofs.Loop.{passed, ends}
+use Rattle.class_file.proofs.readers.Loop.{passed, ends}
 use Rattle.class_file.proofs.attribute.skip_many.Goals as goal
 
 pub returns-in_err-rest : goal.returns-in_err-rest

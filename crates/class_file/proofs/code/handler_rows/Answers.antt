@@ -4,7 +4,7 @@ use Rattle.class_file.specs.declared.record.HandlerRow.{HandlerRow}
 use Rattle.byte_read.specs.Reading.{steps_at, one_more}
 use Rattle.class_file.specs.ReadingMembers.{handler_at}
 use Rattle.byte_read.proofs.Loop.{item_goes_on, is_done}
-use Rattle.class_file.proofs.Loop.{item_ends}
+use Rattle.class_file.proofs.readers.Loop.{item_ends}
 use Rattle.class_file.proofs.code.handler_rows.Goals as goal
 
 pub returns-in_err-row : goal.returns-in_err-row

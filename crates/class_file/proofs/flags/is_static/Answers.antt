@@ -1,4 +1,4 @@
-use Rattle.class_file.proofs.Bits.{flag_bit}
+use Rattle.class_file.proofs.layout.Bits.{flag_bit}
 use Rattle.class_file.proofs.flags.is_static.Goals as goal
 
 pub returns : goal.returns

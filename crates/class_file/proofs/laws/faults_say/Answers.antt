@@ -1,6 +1,6 @@
-use Rattle.class_file.proofs.DescriptorsSay.{bad_descriptor_is}
-use Rattle.class_file.proofs.ShapeSays.{bad_shape_is}
-use Rattle.class_file.proofs.FaultsSay.{truncated_is, bad_pool_is}
+use Rattle.class_file.proofs.faults.DescriptorsSay.{bad_descriptor_is}
+use Rattle.class_file.proofs.faults.ShapeSays.{bad_shape_is}
+use Rattle.class_file.proofs.faults.FaultsSay.{truncated_is, bad_pool_is}
 use Rattle.class_file.proofs.laws.faults_say.Goals as goal
 
 pub returns-clause-truncated : goal.returns-clause-truncated

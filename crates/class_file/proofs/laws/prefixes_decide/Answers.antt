@@ -1,4 +1,4 @@
-use Rattle.class_file.proofs.Prefixes.{prefixes_are_truncated, faults_hold, prefixes_of_faults, prefixes_of_truncated, none_begins}
+use Rattle.class_file.proofs.faults.Prefixes.{prefixes_are_truncated, faults_hold, prefixes_of_faults, prefixes_of_truncated, none_begins}
 use Rattle.class_file.proofs.laws.prefixes_decide.Goals as goal
 
 pub returns-clause-cut : goal.returns-clause-cut

@@ -3,7 +3,7 @@ use Rattle.std.proofs.lemmas.Result.{err_from_is_err_and}
 use Rattle.byte_read.specs.Reading.{steps_at}
 use Rattle.class_file.specs.ReadingMembers.{field_attribute_at}
 use Rattle.byte_read.proofs.Loop.{goes_on, is_done}
-use Rattle.class_file.proofs.Loop.{ends}
+use Rattle.class_file.proofs.readers.Loop.{ends}
 use Rattle.class_file.proofs.member.field_attributes.Goals as goal
 
 pub returns-in_err-value : goal.returns-in_err-value

@@ -1,5 +1,5 @@
 use Rattle.std.proofs.Common.{sym, ◌∙◌}
-use Rattle.class_file.proofs.Heads.{head_texts, broken, again, kept, no_field_type, field_judged}
+use Rattle.class_file.proofs.text_table.Heads.{head_texts, broken, again, kept, no_field_type, field_judged}
 use Rattle.class_file.proofs.member.field_head_at.Goals as goal
 use Rattle.class_file.proofs.member.field_head_at.Goals.{then-not-is_field_head-via-then-not-is_field_head, then-not-is_field_head-via-else-not-is_field_head+then-is_declared}
 

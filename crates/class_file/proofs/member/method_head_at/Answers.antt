@@ -1,5 +1,5 @@
 use Rattle.std.proofs.Common.{sym, ◌∙◌}
-use Rattle.class_file.proofs.Heads.{head_texts, broken, again, kept, no_method_type, method_judged}
+use Rattle.class_file.proofs.text_table.Heads.{head_texts, broken, again, kept, no_method_type, method_judged}
 use Rattle.class_file.proofs.member.method_head_at.Goals as goal
 use Rattle.class_file.proofs.member.method_head_at.Goals.{then-not-is_method_head-via-then-not-is_method_head, then-not-is_method_head-via-else-not-is_method_head+then-is_declared}
 

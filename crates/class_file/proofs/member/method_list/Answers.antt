@@ -3,8 +3,8 @@ use Rattle.std.proofs.lemmas.Result.{err_from_is_err_and}
 use Rattle.byte_read.specs.Reading.{steps_at, one_more}
 use Rattle.class_file.specs.ReadingMembers.{method_at}
 use Rattle.byte_read.proofs.Loop.{item_goes_on, is_done}
-use Rattle.class_file.proofs.Loop.{item_ends}
-use Rattle.class_file.proofs.SameTexts.{none_seen}
+use Rattle.class_file.proofs.readers.Loop.{item_ends}
+use Rattle.class_file.proofs.text_table.SameTexts.{none_seen}
 use Rattle.class_file.proofs.member.method_list.Goals as goal
 
 pub loop-init : goal.loop-init

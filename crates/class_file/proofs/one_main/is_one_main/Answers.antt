@@ -1,5 +1,5 @@
 use Rattle.std.proofs.Common.{sym, ◌∙◌}
-use Rattle.class_file.proofs.OneMainTests.{one_main_takes, one_main_again}
+use Rattle.class_file.proofs.calls.OneMainTests.{one_main_takes, one_main_again}
 use Rattle.class_file.proofs.one_main.is_one_main.Goals as goal
 
 pub returns : goal.returns

@@ -3,7 +3,7 @@ use Rattle.std.proofs.lemmas.Result.{err_from_is_err_and}
 use Rattle.byte_read.specs.Reading.{steps_at, one_more}
 use Rattle.class_file.specs.ReadingClass.{class_index_at}
 use Rattle.byte_read.proofs.Loop.{item_goes_on, is_done}
-use Rattle.class_file.proofs.Loop.{item_ends}
+use Rattle.class_file.proofs.readers.Loop.{item_ends}
 use Rattle.class_file.proofs.read.interface_list.Goals as goal
 
 pub returns-in_err-interface : goal.returns-in_err-interface

@@ -1,7 +1,7 @@
 use Rattle.std.proofs.Common.{arith}
-use Rattle.class_file.proofs.Whole.{one_record}
-use Rattle.class_file.proofs.AtOnce.{at_once}
-use Rattle.class_file.proofs.Answers.{is_found, is_read, is_refused, is_answered}
+use Rattle.class_file.proofs.layout.Whole.{one_record}
+use Rattle.class_file.proofs.calls.AtOnce.{at_once}
+use Rattle.class_file.proofs.calls.Answers.{is_found, is_read, is_refused, is_answered}
 use Rattle.class_file.proofs.read.read_class.Goals as goal
 
 pub returns-clause-found : goal.returns-clause-found

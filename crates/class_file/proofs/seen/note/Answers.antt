@@ -1,7 +1,7 @@
 use Rattle.std.proofs.Common.{true, subst, ap, ◌∙◌}
 use Rattle.std.specs.BTreeSet.{Updates}
 use Rattle.class_file.specs.Texts.{signature_of, signature_cmp}
-use Rattle.class_file.proofs.SameTexts.{one_seen}
+use Rattle.class_file.proofs.text_table.SameTexts.{one_seen}
 use Rattle.class_file.proofs.seen.note.Goals as goal
 
 pub returns-clause-seen : goal.returns-clause-seen

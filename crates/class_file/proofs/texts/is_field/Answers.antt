@@ -1,7 +1,7 @@
 use Rattle.std.proofs.Common.{false, sym, ap, ◌∙◌}
 use Rattle.byte_read.proofs.Steps.{no_failure, same_why}
 use Rattle.class_file.specs.Texts.{unless_memory}
-use Rattle.class_file.proofs.Told.{field_none}
+use Rattle.class_file.proofs.text_table.Told.{field_none}
 use Rattle.class_file.proofs.texts.is_field.Goals as goal
 use Rattle.class_file.proofs.texts.is_field.Goals.{in-Ok, in-Err}
 

@@ -1,7 +1,7 @@
 use Rattle.std.proofs.Common.{None, sym, ap, ◌∙◌}
 use Rattle.byte_read.proofs.Steps.{same_why}
 use Rattle.class_file.specs.Texts.{unless_memory}
-use Rattle.class_file.proofs.Told.{method_none}
+use Rattle.class_file.proofs.text_table.Told.{method_none}
 use Rattle.class_file.proofs.texts.method_shape.Goals as goal
 
 pub returns-in-Err-clause-none : goal.returns-in-Err-clause-none

@@ -1,7 +1,7 @@
 use Rattle.std.proofs.Common.{sym, ap, ◌∙◌, arith}
 use Rattle.std.specs.Option.{option_copied}
 use Rattle.class_file.specs.Texts.{number_in}
-use Rattle.class_file.proofs.SameTexts.{none_numbered, one_passed, one_numbered, all_numbered}
+use Rattle.class_file.proofs.text_table.SameTexts.{none_numbered, one_passed, one_numbered, all_numbered}
 use Rattle.class_file.proofs.texts.numbers_of.Goals as goal
 use Rattle.class_file.proofs.texts.numbers_of.Goals.{in-Some+in_ok-insert, in_default}
 

@@ -1,5 +1,5 @@
 use Rattle.class_file.specs.Texts.{number_in}
-use Rattle.class_file.proofs.SameTexts.{AreNumberedTo}
+use Rattle.class_file.proofs.text_table.SameTexts.{AreNumberedTo}
 use Rattle.class_file.proofs.texts.numbers_of.Given as goal
 
 -- the texts before the index are numbered

@@ -1,7 +1,7 @@
 use Rattle.std.proofs.Common.{sym, arith}
 use Rattle.class_file.specs.Texts.{number_in, row_at}
 use Rattle.byte_read.proofs.Steps.{ok_is}
-use Rattle.class_file.proofs.SameTexts.{one_row, table_is_right}
+use Rattle.class_file.proofs.text_table.SameTexts.{one_row, table_is_right}
 use Rattle.class_file.proofs.texts.rows_of.Goals as goal
 
 pub loop-index-preserved : goal.loop-index-preserved

@@ -1,7 +1,7 @@
 use Rattle.std.proofs.Common.{true, ◌∙◌}
 use Rattle.class_tree.specs.Members.{IsMember, field_in}
 use Rattle.class_tree.specs.FieldLookup.{find_field}
-use Rattle.class_tree.proofs.FoundMembers.{found_members}
+use Rattle.class_tree.proofs.lookups.FoundMembers.{found_members}
 use Rattle.class_find.proofs.FoundHere.{is_so}
 use Rattle.class_find.proofs.find.find_field.Goals as goal
 

@@ -1,7 +1,7 @@
 use Rattle.std.proofs.Common.{false, ◌∙◌}
 use Rattle.class_tree.specs.Members.{IsMember}
 use Rattle.class_tree.specs.InterfaceLookup.{interface_method_in, find_interface_method}
-use Rattle.class_tree.proofs.FoundMembers.{found_members}
+use Rattle.class_tree.proofs.lookups.FoundMembers.{found_members}
 use Rattle.class_find.proofs.FoundHere.{is_so}
 use Rattle.class_find.proofs.find.find_interface_method.Goals as goal
 

@@ -2,7 +2,7 @@ use Rattle.std.proofs.Common.{arith}
 use Rattle.std.proofs.lemmas.Result.{err_from_is_err_and}
 use Rattle.byte_read.proofs.Steps.{slice_length}
 use Rattle.class_pool.specs.declared.refusal.PoolRefusal.TheVariants.{Truncated}
-use Rattle.class_pool.proofs.Bodies.{size_enough, size_stops, parts_stop}
+use Rattle.class_pool.proofs.constant_pool.Bodies.{size_enough, size_stops, parts_stop}
 use Rattle.class_pool.proofs.entry.body_at.Goals as goal
 
 pub entry_of-requires : goal.entry_of-requires

@@ -2,8 +2,8 @@ use Rattle.std.proofs.Common.{Err, sym, ◌∙◌}
 use Rattle.class_pool.specs.declared.descriptor.DescriptorRefusal.TheVariants.{BadDescriptor}
 use Rattle.class_pool.specs.Descriptors.{IsFieldText}
 use Rattle.class_pool.specs.DescriptorReading.{field_of}
-use Rattle.class_pool.proofs.FieldTypes.{field_taken, field_read}
-use Rattle.class_pool.proofs.Calls.{is_found, is_read, is_told, told_refused, is_refused}
+use Rattle.class_pool.proofs.descriptors.FieldTypes.{field_taken, field_read}
+use Rattle.class_pool.proofs.descriptors.Calls.{is_found, is_read, is_told, told_refused, is_refused}
 use Rattle.class_pool.proofs.kinds.read_field_descriptor.Goals as goal
 
 pub returns-then-not-is_field_text-clause-only : goal.returns-then-not-is_field_text-clause-only

@@ -1,9 +1,9 @@
 use Rattle.std.proofs.Common.{sym, ap, ◌∙◌}
 use Rattle.class_pool.specs.PoolReading.{pool_at}
-use Rattle.class_pool.proofs.Pools.{pool_again, same_parts}
-use Rattle.class_pool.proofs.ClassNames.{some_is}
-use Rattle.class_pool.proofs.FieldTypes.{field_read}
-use Rattle.class_pool.proofs.Parameters.{method_read}
+use Rattle.class_pool.proofs.constant_pool.Pools.{pool_again, same_parts}
+use Rattle.class_pool.proofs.descriptors.ClassNames.{some_is}
+use Rattle.class_pool.proofs.descriptors.FieldTypes.{field_read}
+use Rattle.class_pool.proofs.descriptors.Parameters.{method_read}
 use Rattle.class_pool.proofs.laws.one_value.Goals as goal
 
 pub returns-clause-pool : goal.returns-clause-pool

@@ -1,7 +1,7 @@
 use Rattle.std.proofs.Common.{◌≡◌, ◌++◌, ◌∷◌, [], length, sym}
 use Rattle.std.proofs.lemmas.Result.{err_from_is_err_and}
 use Rattle.class_pool.specs.DescriptorReading.{params_at}
-use Rattle.class_pool.proofs.Parameters.{loop_goes_on, loop_closes, loop_fails, loop_ends}
+use Rattle.class_pool.proofs.descriptors.Parameters.{loop_goes_on, loop_closes, loop_fails, loop_ends}
 use Rattle.class_pool.proofs.methods.params_at.Goals as goal
 
 pub returns-in-Some : goal.returns-in-Some

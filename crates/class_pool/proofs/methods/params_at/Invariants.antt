@@ -1,6 +1,6 @@
 use Rattle.std.proofs.Common.{◌≡◌, ◌-◌, length}
 use Rattle.class_pool.specs.DescriptorReading.{params_at}
-use Rattle.class_pool.proofs.Parameters.{with_prefix}
+use Rattle.class_pool.proofs.descriptors.Parameters.{with_prefix}
 use Rattle.class_pool.proofs.methods.params_at.Given as goal
 
 -- what was read so far, and what the rest gives, is the whole

@@ -2,8 +2,8 @@ use Rattle.std.proofs.Common.{Err, sym, ◌∙◌}
 use Rattle.class_pool.specs.declared.descriptor.DescriptorRefusal.TheVariants.{BadDescriptor}
 use Rattle.class_pool.specs.Descriptors.{IsMethodText}
 use Rattle.class_pool.specs.DescriptorReading.{method_of}
-use Rattle.class_pool.proofs.Parameters.{method_taken, method_read}
-use Rattle.class_pool.proofs.Calls.{is_found, is_read, is_told, told_refused, is_refused}
+use Rattle.class_pool.proofs.descriptors.Parameters.{method_taken, method_read}
+use Rattle.class_pool.proofs.descriptors.Calls.{is_found, is_read, is_told, told_refused, is_refused}
 use Rattle.class_pool.proofs.methods.read_descriptor.Goals as goal
 
 pub returns-then-not-is_method_text-clause-only : goal.returns-then-not-is_method_text-clause-only

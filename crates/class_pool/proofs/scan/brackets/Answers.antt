@@ -1,5 +1,5 @@
 use Rattle.std.proofs.Common.{arith}
-use Rattle.class_pool.proofs.Scans.{bracket, no_bracket, no_letter}
+use Rattle.class_pool.proofs.descriptors.Scans.{bracket, no_bracket, no_letter}
 use Rattle.class_pool.proofs.scan.brackets.Goals as goal
 
 pub returns-then-letter-ne91-clause-value : goal.returns-then-letter-ne91-clause-value

@@ -1,6 +1,6 @@
 use Rattle.std.proofs.Common.{◌≡◌, sym, ap, ◌∙◌}
 use Rattle.class_pool.specs.DescriptorReading.{suffix_of, kind_at}
-use Rattle.class_pool.proofs.Skips.{ends, field_ends}
+use Rattle.class_pool.proofs.descriptors.Skips.{ends, field_ends}
 use Rattle.class_pool.proofs.scan.is_field_text.Goals as goal
 
 pub returns-in-Some : goal.returns-in-Some

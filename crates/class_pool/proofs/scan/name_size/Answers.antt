@@ -1,6 +1,6 @@
 use Rattle.std.proofs.Common.{◌∙◌, sym, ap, true, cond, Some, None, Bool, arith}
 use Rattle.class_pool.specs.DescriptorReading.{name_size}
-use Rattle.class_pool.proofs.Scans.{name_stops, name_none, name_on, name_end}
+use Rattle.class_pool.proofs.descriptors.Scans.{name_stops, name_none, name_on, name_end}
 use Rattle.class_pool.proofs.scan.name_size.Goals as goal
 
 pub returns-then-begins-clause-value : goal.returns-then-begins-clause-value

@@ -1,6 +1,6 @@
 use Rattle.std.proofs.Common.{◌≡◌, drop, true}
 use Rattle.class_pool.specs.DescriptorReading.{name_size}
-use Rattle.class_pool.proofs.Scans.{ahead}
+use Rattle.class_pool.proofs.descriptors.Scans.{ahead}
 use Rattle.class_pool.proofs.scan.name_size.Given as goal
 
 -- the bytes so far are of the name, and the rest decides

@@ -1,6 +1,6 @@
 use Rattle.std.proofs.Common.{length, sym}
 use Rattle.class_pool.specs.DescriptorReading.{suffix_of, params_at}
-use Rattle.class_pool.proofs.Skips.{skip_goes_on, skip_closes, skip_fails, skip_ends}
+use Rattle.class_pool.proofs.descriptors.Skips.{skip_goes_on, skip_closes, skip_fails, skip_ends}
 use Rattle.class_pool.proofs.scan.skip_params.Goals as goal
 
 pub returns-in-Some : goal.returns-in-Some

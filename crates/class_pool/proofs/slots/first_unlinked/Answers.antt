@@ -1,6 +1,6 @@
 use Rattle.std.proofs.Common.{sym, ◌∙◌, arith}
 use Rattle.class_pool.specs.PoolReading.{first_unlinked}
-use Rattle.class_pool.proofs.Linked.{goes_on, ends, is_done}
+use Rattle.class_pool.proofs.constant_pool.Linked.{goes_on, ends, is_done}
 use Rattle.class_pool.proofs.slots.first_unlinked.Goals as goal
 
 pub returns-then-not-is_slot_linked : goal.returns-then-not-is_slot_linked

@@ -2,8 +2,8 @@ use Rattle.std.proofs.Common.{◌-◌, false, refl, arith}
 use Rattle.std.proofs.lemmas.Result.{err_from_is_err_and}
 use Rattle.byte_read.proofs.Steps.{no_failure, same_why, u2_takes}
 use Rattle.class_pool.specs.declared.refusal.PoolRefusal.TheVariants.{Truncated}
-use Rattle.class_pool.proofs.Pools.{count_read, start_count, start_first}
-use Rattle.class_pool.proofs.SlotLists.{slots_taken}
+use Rattle.class_pool.proofs.constant_pool.Pools.{count_read, start_count, start_first}
+use Rattle.class_pool.proofs.constant_pool.SlotLists.{slots_taken}
 use Rattle.class_pool.proofs.slots.pool_at.Goals as goal
 
 pub from_slots-pool-requires : goal.from_slots-pool-requires

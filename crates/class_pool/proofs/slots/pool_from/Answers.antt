@@ -1,6 +1,6 @@
 use Rattle.std.proofs.Common.{arith, length-drop}
 use Rattle.byte_read.proofs.Steps.{IsBytes-drop, IsBytes-take}
-use Rattle.class_pool.proofs.Pools.{rest_is_short}
+use Rattle.class_pool.proofs.constant_pool.Pools.{rest_is_short}
 use Rattle.class_pool.proofs.slots.pool_from.Goals as goal
 
 pub overflow_sub-result : goal.overflow_sub-result

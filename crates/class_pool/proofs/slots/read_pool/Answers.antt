@@ -1,5 +1,5 @@
 use Rattle.std.proofs.Common.{drop, arith}
-use Rattle.class_pool.proofs.Pools.{is_started, is_found, is_read, is_refused, is_answered}
+use Rattle.class_pool.proofs.constant_pool.Pools.{is_started, is_found, is_read, is_refused, is_answered}
 use Rattle.class_pool.proofs.slots.read_pool.Goals as goal
 
 pub returns-clause-found : goal.returns-clause-found

@@ -1,8 +1,8 @@
 use Rattle.std.proofs.Common.{◌≡◌, ◌++◌, ◌∷◌, ◌-◌, [], false, refl}
 use Rattle.std.proofs.lemmas.Result.{err_from_is_err_and}
 use Rattle.class_pool.specs.PoolReading.{is_first_of_two, slots_at}
-use Rattle.class_pool.proofs.Steps.{good_shows}
-use Rattle.class_pool.proofs.Loop.{goes_on, ends, is_done, first_read, first_fails, first_passed}
+use Rattle.class_pool.proofs.constant_pool.Steps.{good_shows}
+use Rattle.class_pool.proofs.constant_pool.Loop.{goes_on, ends, is_done, first_read, first_fails, first_passed}
 use Rattle.class_pool.proofs.slots.slots_at.Goals as goal
 
 pub returns-in_err-slot-clause-value : goal.returns-in_err-slot-clause-value

@@ -1,6 +1,6 @@
 use Rattle.std.proofs.Common.{◌≡◌, ◌-◌, false}
 use Rattle.class_pool.specs.PoolReading.{slots_at}
-use Rattle.class_pool.proofs.Loop.{with_prefix, IsBegun}
+use Rattle.class_pool.proofs.constant_pool.Loop.{with_prefix, IsBegun}
 use Rattle.class_pool.proofs.slots.slots_at.Given as goal
 
 -- what was read so far, and what the rest gives, is the whole

@@ -1,5 +1,5 @@
 use Rattle.std.proofs.Common.{◌≡◌, ◌<◌, length, sym, ◌∙◌, arith}
-use Rattle.class_pool.proofs.Texts.{step, stuck, empty_text}
+use Rattle.class_pool.proofs.constant_pool.Texts.{step, stuck, empty_text}
 use Rattle.class_pool.proofs.utf8.is_modified_utf8.Goals as goal
 
 pub loop-rest-smaller : goal.loop-rest-smaller

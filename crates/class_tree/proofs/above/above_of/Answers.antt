@@ -2,8 +2,8 @@ use Rattle.std.proofs.Common.{◌≡◌, ℕ, ◌+◌, ◌<◌, List, Bool, Vec,
 use Rattle.std.proofs.lemmas.List.{length-map}
 use Rattle.class_tree.specs.Set.{is_directly_below}
 use Rattle.class_tree.specs.Closure.{AreOver, IsClosure, IsSquare}
-use Rattle.class_tree.proofs.Rows.{lists}
-use Rattle.class_tree.proofs.Within.{stays_below}
+use Rattle.class_tree.proofs.tables.Rows.{lists}
+use Rattle.class_tree.proofs.tables.Within.{stays_below}
 use Rattle.class_tree.proofs.above.above_of.Goals as goal
 
 -- how many rows there are

@@ -1,6 +1,6 @@
 use Rattle.std.proofs.Common.{◌-◌, length, get_or, refl, ap, ◌∙◌, arith}
 use Rattle.std.proofs.lemmas.Option.{slice_get_read}
-use Rattle.class_tree.proofs.Tables.{file_below}
+use Rattle.class_tree.proofs.tables.Tables.{file_below}
 use Rattle.class_tree.proofs.above.row_of.Goals as goal
 
 pub returns-in_ok-row-2 : goal.returns-in_ok-row-2

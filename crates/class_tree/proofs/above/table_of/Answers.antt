@@ -1,7 +1,7 @@
 use Rattle.std.proofs.Common.{◌≡◌, ◌+◌, List, Bool, Vec, Global, length, sym, ◌∙◌, ap, subst, arith, [], ◌∷◌}
 use Rattle.std.proofs.lemmas.List.{length-append}
 use Rattle.class_tree.specs.Set.{is_directly_below}
-use Rattle.class_tree.proofs.Tables.{AreRows, rows_more, table_begins}
+use Rattle.class_tree.proofs.tables.Tables.{AreRows, rows_more, table_begins}
 use Rattle.class_tree.proofs.above.table_of.Goals as goal
 
 pub loop-class-preserved : goal.loop-class-preserved

@@ -1,8 +1,8 @@
 use Rattle.std.proofs.Common.{◌≡◌, ℕ, List, Bool, Vec, Global, length, sym, ◌∙◌, subst, arith}
 use Rattle.std.proofs.lemmas.List.{length-map}
 use Rattle.class_tree.specs.Closure.{AreOver, IsSquare}
-use Rattle.class_tree.proofs.Rows.{lists}
-use Rattle.class_tree.proofs.Leading.{rounds, rounds_square, closed}
+use Rattle.class_tree.proofs.tables.Rows.{lists}
+use Rattle.class_tree.proofs.ancestors.Leading.{rounds, rounds_square, closed}
 use Rattle.class_tree.proofs.closure.close.Goals as goal
 
 counted : (rows : List (Vec Bool Global)) → length (lists rows) ≡ length rows

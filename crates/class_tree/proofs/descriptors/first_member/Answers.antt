@@ -1,7 +1,7 @@
 use Rattle.std.proofs.Common.{Some, ap, sym, ◌∙◌, option_map}
 use Rattle.class_tree.specs.Scan.{saturated}
 use Rattle.class_tree.specs.Descriptors.{fault_at, fault_refusal, member_refusal}
-use Rattle.class_tree.proofs.Scans.{scan_more, scan_here, scan_end}
+use Rattle.class_tree.proofs.tables.Scans.{scan_more, scan_here, scan_end}
 use Rattle.class_tree.proofs.descriptors.first_member.Goals as goal
 
 pub returns-in-Some : goal.returns-in-Some

@@ -2,7 +2,7 @@ use Rattle.std.proofs.Common.{◌+◌, [], ◌∷◌, length, ap, ◌∙◌, ari
 use Rattle.std.proofs.lemmas.List.{length-append}
 use Rattle.class_tree.specs.declared.descriptors.Fault.{Fault}
 use Rattle.class_tree.specs.Descriptors.{fault_at, method_text_fault, method_fault}
-use Rattle.class_tree.proofs.Faults.{fault_more, fault_all}
+use Rattle.class_tree.proofs.tables.Faults.{fault_more, fault_all}
 use Rattle.class_tree.proofs.descriptors.method_faults.Goals as goal
 
 pub loop-index-preserved : goal.loop-index-preserved

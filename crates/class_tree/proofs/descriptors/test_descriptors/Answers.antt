@@ -1,6 +1,6 @@
 use Rattle.std.proofs.Common.{sym, ◌∙◌, inr}
 use Rattle.class_tree.specs.Descriptors.{file_refusal}
-use Rattle.class_tree.proofs.Scans.{scan_more, scan_here, scan_end}
+use Rattle.class_tree.proofs.tables.Scans.{scan_more, scan_here, scan_end}
 use Rattle.class_tree.proofs.descriptors.test_descriptors.Goals as goal
 
 pub returns-in-Ok-Some-clause-refused : goal.returns-in-Ok-Some-clause-refused

@@ -1,4 +1,4 @@
-use Rattle.class_tree.proofs.FoundMembers.{found_members}
+use Rattle.class_tree.proofs.lookups.FoundMembers.{found_members}
 use Rattle.class_tree.proofs.laws.found_are_members.Goals as goal
 
 pub returns : goal.returns

@@ -1,4 +1,4 @@
-use Rattle.class_tree.proofs.LookupRules.{fields_ruled, interfaces_ruled, superclasses_ruled}
+use Rattle.class_tree.proofs.lookups.LookupRules.{fields_ruled, interfaces_ruled, superclasses_ruled}
 use Rattle.class_tree.proofs.laws.lookups_are_ruled.Goals as goal
 
 pub returns-clause-fields : goal.returns-clause-fields

@@ -1,4 +1,4 @@
-use Rattle.class_tree.proofs.TestedAccess.{subclass_says, allowed_says}
+use Rattle.class_tree.proofs.lookups.TestedAccess.{subclass_says, allowed_says}
 use Rattle.class_tree.proofs.laws.tests_are_relations.Goals as goal
 
 pub returns-clause-subclass : goal.returns-clause-subclass

@@ -5,8 +5,8 @@ use Rattle.class_tree.specs.declared.route.Route.TheVariants.{Superinterfaces}
 use Rattle.class_tree.specs.DirectSupers.{above_by}
 use Rattle.class_tree.specs.Upwards.{first_answer}
 use Rattle.class_tree.specs.Ways.{way_at, answer_of, IsWayOver}
-use Rattle.class_tree.proofs.Seen.{kept_more}
-use Rattle.class_tree.proofs.RouteWays.{beside}
+use Rattle.class_tree.proofs.tables.Seen.{kept_more}
+use Rattle.class_tree.proofs.lookups.RouteWays.{beside}
 use Rattle.class_tree.proofs.lookup_ways.beside_of.Goals as goal
 
 pub loop-class-preserved : goal.loop-class-preserved

@@ -2,7 +2,7 @@ use Rattle.std.proofs.Common.{◌≡◌, ℕ, ◌+◌, List, length, subst, arit
 use Rattle.class_tree.specs.LookupWays.{AreAlone, LeadUpBy, LeadBeside}
 use Rattle.class_tree.specs.declared.route.Route.{Route}
 use Rattle.class_tree.specs.declared.route.Route.TheVariants.{Superclass, Superinterfaces, Both}
-use Rattle.class_tree.proofs.RouteWays.{all_ways}
+use Rattle.class_tree.proofs.lookups.RouteWays.{all_ways}
 use Rattle.class_tree.proofs.lookup_ways.lookup_ways.Goals as goal
 
 pub returns : goal.returns

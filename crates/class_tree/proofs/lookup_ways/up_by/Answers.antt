@@ -1,6 +1,6 @@
 use Rattle.std.proofs.Common.{ℕ, List, length, sym, subst}
 use Rattle.class_tree.specs.Ways.{FallAlong, AreWaysUp}
-use Rattle.class_tree.proofs.RouteWays.{route_falls, route_ways}
+use Rattle.class_tree.proofs.lookups.RouteWays.{route_falls, route_ways}
 use Rattle.class_tree.proofs.lookup_ways.up_by.Goals as goal
 
 pub ways_of-requires : goal.ways_of-requires

@@ -2,7 +2,7 @@ use Rattle.std.proofs.Common.{◌+◌, List, take, map, sym, ap, subst}
 use Rattle.class_tree.specs.declared.member_index.MemberIndex.{MemberIndex}
 use Rattle.class_tree.specs.Members.{Declaration, in_file}
 use Rattle.class_tree.specs.MemberIndex.{own_methods, IsIndexOf, AreIndexes}
-use Rattle.class_tree.proofs.IndexLists.{indexes_more}
+use Rattle.class_tree.proofs.tables.IndexLists.{indexes_more}
 use Rattle.class_tree.proofs.member_index.method_indexes.Goals as goal
 
 pub loop-file-preserved : goal.loop-file-preserved

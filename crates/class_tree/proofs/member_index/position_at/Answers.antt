@@ -1,6 +1,6 @@
 use Rattle.std.proofs.Common.{length, refl, ap, sym, ◌∙◌, slice_get}
 use Rattle.std.proofs.lemmas.Option.{slice_get_read}
-use Rattle.class_tree.proofs.IndexLists.{position_there, position_absent, get_past}
+use Rattle.class_tree.proofs.tables.IndexLists.{position_there, position_absent, get_past}
 use Rattle.class_tree.proofs.member_index.position_at.Goals as goal
 
 pub returns-in-Some : goal.returns-in-Some

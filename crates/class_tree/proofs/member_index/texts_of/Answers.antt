@@ -2,7 +2,7 @@ use Rattle.std.proofs.Common.{ℕ, ◌+◌, List, map, take, sym, ap, subst, ◌
 use Rattle.std.specs.List.{AllByRecursion}
 use Rattle.class_tree.specs.Members.{in_file}
 use Rattle.class_tree.specs.MemberIndex.{IsAmong}
-use Rattle.class_tree.proofs.MemberKeys.{with_text, among_more}
+use Rattle.class_tree.proofs.lookups.MemberKeys.{with_text, among_more}
 use Rattle.class_tree.proofs.member_index.texts_of.Goals as goal
 
 pub loop-member-preserved : goal.loop-member-preserved

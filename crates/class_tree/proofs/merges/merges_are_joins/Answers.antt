@@ -1,4 +1,4 @@
-use Rattle.class_tree.proofs.MergeLaws.{supers, common, commutes, associates, stays, merge_fits, interfaces, below}
+use Rattle.class_tree.proofs.merging.MergeLaws.{supers, common, commutes, associates, stays, merge_fits, interfaces, below}
 use Rattle.class_tree.proofs.merges.merges_are_joins.Goals as goal
 
 pub returns-clause-supers : goal.returns-clause-supers

@@ -2,7 +2,7 @@ use Rattle.std.proofs.Common.{ℕ, List, [], ◌∷◌, ◌++◌, map, take, sym
 use Rattle.std.proofs.lemmas.List.{map-append}
 use Rattle.class_tree.specs.Set.{own_name}
 use Rattle.class_tree.specs.Names.{fault_after, name_fault}
-use Rattle.class_tree.proofs.Scans.{scan_more, scan_here, scan_end, taken}
+use Rattle.class_tree.proofs.tables.Scans.{scan_more, scan_here, scan_end, taken}
 use Rattle.class_tree.proofs.names.names_of.Goals as goal
 
 pub returns-in-Err-clause-refused : goal.returns-in-Err-clause-refused

@@ -1,6 +1,6 @@
 use Rattle.std.proofs.Common.{◌≡◌, ℕ, map, cond, sym, ap, ◌∙◌, arith}
 use Rattle.class_tree.specs.Closure.{at}
-use Rattle.class_tree.proofs.Counting.{counted_none, counted_more}
+use Rattle.class_tree.proofs.tables.Counting.{counted_none, counted_more}
 use Rattle.class_tree.proofs.rank.rank_of.Goals as goal
 use Rattle.class_tree.proofs.rank.rank_of.Goals.{then-leads, else-leads}
 

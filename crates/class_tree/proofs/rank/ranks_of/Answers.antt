@@ -1,6 +1,6 @@
 use Rattle.std.proofs.Common.{ℕ, ◌+◌, ◌<◌, length, map, sym, subst, ◌∙◌, get_or, ◌≡◌, arith}
 use Rattle.class_tree.specs.Ranks.{rank_in}
-use Rattle.class_tree.proofs.Acyclic.{ranks_by_table, ranks_listed}
+use Rattle.class_tree.proofs.ancestors.Acyclic.{ranks_by_table, ranks_listed}
 use Rattle.class_tree.proofs.rank.ranks_of.Goals as goal
 
 pub returns-clause-ranks : goal.returns-clause-ranks

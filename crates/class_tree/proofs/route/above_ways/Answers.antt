@@ -2,7 +2,7 @@ use Rattle.std.proofs.Common.{ℕ, ◌+◌, ◌∷◌, [], ◌<◌, ◌≡◌, L
 use Rattle.std.proofs.lemmas.List.{length-append}
 use Rattle.class_tree.specs.DirectSupers.{above_by}
 use Rattle.class_tree.specs.Ways.{seen_after, way_at}
-use Rattle.class_tree.proofs.Seen.{ways_more}
+use Rattle.class_tree.proofs.tables.Seen.{ways_more}
 use Rattle.class_tree.proofs.route.above_ways.Goals as goal
 
 pub loop-class-preserved : goal.loop-class-preserved

@@ -3,7 +3,7 @@ use Rattle.std.specs.Option.{option_to_list}
 use Rattle.std.specs.List.{filter_map}
 use Rattle.class_tree.specs.Set.{named_among}
 use Rattle.class_tree.specs.Ways.{seen_after}
-use Rattle.class_tree.proofs.Seen.{named_more}
+use Rattle.class_tree.proofs.tables.Seen.{named_more}
 use Rattle.class_tree.proofs.route.add_named.Goals as goal
 
 pub loop-index-preserved : goal.loop-index-preserved

@@ -1,6 +1,6 @@
 use Rattle.std.proofs.Common.{sym, ◌∙◌}
 use Rattle.class_tree.specs.Supers.{super_fault}
-use Rattle.class_tree.proofs.Scans.{scan_more, scan_here, scan_end}
+use Rattle.class_tree.proofs.tables.Scans.{scan_more, scan_here, scan_end}
 use Rattle.class_tree.proofs.supers.test_supers.Goals as goal
 
 pub returns-in-Some-clause-refused : goal.returns-in-Some-clause-refused

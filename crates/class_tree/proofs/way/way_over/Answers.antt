@@ -1,6 +1,6 @@
 use Rattle.std.proofs.Common.{ℕ, List, ap, ◌∙◌}
 use Rattle.class_tree.specs.Ways.{seen_after, way_at}
-use Rattle.class_tree.proofs.Seen.{begins, goes_on}
+use Rattle.class_tree.proofs.tables.Seen.{begins, goes_on}
 use Rattle.class_tree.proofs.way.way_over.Goals as goal
 
 pub loop-upper-init : goal.loop-upper-init

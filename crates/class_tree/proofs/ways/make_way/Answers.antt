@@ -1,5 +1,5 @@
 use Rattle.std.proofs.Common.{length}
-use Rattle.class_tree.proofs.WayTables.{put}
+use Rattle.class_tree.proofs.lookups.WayTables.{put}
 use Rattle.class_tree.proofs.ways.make_way.Goals as goal
 
 pub returns : goal.returns

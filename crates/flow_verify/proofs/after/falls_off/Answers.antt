@@ -1,7 +1,7 @@
 -- The instruction goes on, and no other one is after it.
 use Rattle.std.proofs.Common.{◌≡◌, true, false, ◌&&◌, ◌+◌, nat_eq, length, get_or, sym, ap, ◌∙◌}
 use Rattle.body_form.specs.Flow.{goes_on}
-use Rattle.flow_verify.proofs.Placed.{falls_at}
+use Rattle.flow_verify.proofs.families.Placed.{falls_at}
 use Rattle.flow_verify.proofs.after.falls_off.Goals as goal
 
 pub returns-then-goes_on : goal.returns-then-goes_on

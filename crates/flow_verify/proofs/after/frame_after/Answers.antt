@@ -2,8 +2,8 @@
 use Rattle.std.proofs.Common.{true, false, option_map, sym, ap, ◌∙◌}
 use Rattle.type_table.specs.Changes.{meant}
 use Rattle.type_table.specs.Frames.{frame_of}
-use Rattle.flow_verify.proofs.Placed.{read_is}
-use Rattle.flow_verify.proofs.FrameAfter.{none_after, after_change}
+use Rattle.flow_verify.proofs.families.Placed.{read_is}
+use Rattle.flow_verify.proofs.families.FrameAfter.{none_after, after_change}
 use Rattle.flow_verify.proofs.after.frame_after.Goals as goal
 
 pub returns-in-None-clause-after : goal.returns-in-None-clause-after

@@ -4,7 +4,7 @@ use Rattle.insn_form.specs.declared.ElementKind.{ElementKind}
 use Rattle.jvm_model.specs.TypesFrames.{is_int}
 use Rattle.jvm_model.specs.TypesRules.{array_load, plain, is_array_of, element_of}
 use Rattle.type_table.specs.Frames.{frame_of}
-use Rattle.flow_verify.proofs.Taking.{second_loaded, int_loaded}
+use Rattle.flow_verify.proofs.families.Taking.{second_loaded, int_loaded}
 use Rattle.flow_verify.proofs.arrays.array_load.Goals as goal
 
 pub returns-in-Some-clause-change : goal.returns-in-Some-clause-change

@@ -7,7 +7,7 @@ use Rattle.jvm_model.specs.TypesRules.{plain}
 use Rattle.type_table.specs.Frames.{frame_of}
 use Rattle.flow_verify.specs.declared.need.Need.TheVariants as need
 use Rattle.flow_verify.specs.Needs.{tests_of}
-use Rattle.flow_verify.proofs.Taking.{ints}
+use Rattle.flow_verify.proofs.families.Taking.{ints}
 use Rattle.flow_verify.proofs.arrays.multi_array.Goals as goal
 
 pub returns-clause-change : goal.returns-clause-change

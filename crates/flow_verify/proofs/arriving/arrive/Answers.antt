@@ -3,9 +3,9 @@ use Rattle.std.proofs.Common.{◌≡◌, None, Some, get_or, length, sym, ◌∙
 use Rattle.type_table.specs.Frames.{frame_of}
 use Rattle.type_table.proofs.Growing.{grows_itself}
 use Rattle.flow_verify.specs.KnownFrames.{IsSound}
-use Rattle.flow_verify.proofs.Positions.{pc_of_position}
-use Rattle.flow_verify.proofs.SentAt.{at_index, at_known, entry_read}
-use Rattle.flow_verify.proofs.ArrivedOnes.{merge_clashes, merge_same, merge_grown, grown_sound, same_kept, same_arrived, clash_arrived, put_kept, put_listed, grown_arrived}
+use Rattle.flow_verify.proofs.waves.Positions.{pc_of_position}
+use Rattle.flow_verify.proofs.waves.SentAt.{at_index, at_known, entry_read}
+use Rattle.flow_verify.proofs.waves.ArrivedOnes.{merge_clashes, merge_same, merge_grown, grown_sound, same_kept, same_arrived, clash_arrived, put_kept, put_listed, grown_arrived}
 use Rattle.flow_verify.proofs.arriving.arrive.Goals as goal
 
 pub returns-in_default-clause-listed : goal.returns-in_default-clause-listed

@@ -7,8 +7,8 @@ use Rattle.flow_verify.specs.declared.frames.Arriving.{Arriving}
 use Rattle.flow_verify.specs.KnownFrames.{IsSound}
 use Rattle.flow_verify.specs.Waves.{meaning_of}
 use Rattle.flow_verify.specs.Merging.{HaveArrived}
-use Rattle.flow_verify.proofs.StillKnown.{sound_stays}
-use Rattle.flow_verify.proofs.ArrivedAll.{none_arrived, one_more}
+use Rattle.flow_verify.proofs.waves.StillKnown.{sound_stays}
+use Rattle.flow_verify.proofs.waves.ArrivedAll.{none_arrived, one_more}
 use Rattle.flow_verify.proofs.arriving.arrive_all.Goals as goal
 
 -- what stands for a frame past the end

@@ -4,7 +4,7 @@ use Rattle.jvm_model.specs.TypesRules.{takes, construct_on}
 use Rattle.type_table.specs.Frames.{frame_of}
 use Rattle.flow_verify.specs.declared.need.Need.{Need}
 use Rattle.flow_verify.specs.Needs.{tests_of}
-use Rattle.flow_verify.proofs.Constructing.{constructed}
+use Rattle.flow_verify.proofs.families.Constructing.{constructed}
 use Rattle.flow_verify.proofs.constructors.construct.Goals as goal
 
 pub returns-clause-change : goal.returns-clause-change

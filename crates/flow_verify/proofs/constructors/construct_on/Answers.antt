@@ -3,7 +3,7 @@ use Rattle.std.proofs.Common.{◌≤◌, length, refl, sym, ◌∙◌, arith}
 use Rattle.std.proofs.lemmas.Option.{slice_get_past}
 use Rattle.type_table.specs.Frames.{frame_of}
 use Rattle.type_table.proofs.Lengths.{frame_is_high}
-use Rattle.flow_verify.proofs.Constructing.{object_at, no_object}
+use Rattle.flow_verify.proofs.families.Constructing.{object_at, no_object}
 use Rattle.flow_verify.proofs.constructors.construct_on.Goals as goal
 
 pub returns-then-frame-count-clause-change : goal.returns-then-frame-count-clause-change

@@ -2,7 +2,7 @@
 use Rattle.std.proofs.Common.{sym, ap, refl, ◌∙◌, ℕ, Some}
 use Rattle.body_form.specs.declared.op.Op.{Op}
 use Rattle.jvm_model.specs.TypesRules.{makes_class}
-use Rattle.flow_verify.proofs.Placed.{op_found, op_none}
+use Rattle.flow_verify.proofs.families.Placed.{op_found, op_none}
 use Rattle.flow_verify.proofs.constructors.makes_class.Goals as goal
 
 pub returns-in-Some : goal.returns-in-Some

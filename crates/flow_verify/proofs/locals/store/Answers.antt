@@ -3,7 +3,7 @@ use Rattle.std.proofs.Common.{◌<◌, length, Some, None, sym, ap, ◌∙◌, a
 use Rattle.std.proofs.lemmas.Option.{slice_get_within}
 use Rattle.type_table.specs.Frames.{frame_of}
 use Rattle.type_table.proofs.Lengths.{frame_is_high, frame_is_wide}
-use Rattle.flow_verify.proofs.Taking.{stored_top}
+use Rattle.flow_verify.proofs.families.Taking.{stored_top}
 use Rattle.flow_verify.proofs.locals.store.Goals as goal
 
 pub returns-in-Some-clause-change : goal.returns-in-Some-clause-change

@@ -5,7 +5,7 @@ use Rattle.class_tree.specs.MergeLaws.{IsKnown}
 use Rattle.type_table.specs.Frames.{frame_of}
 use Rattle.type_table.proofs.Lengths.{frame_is_high}
 use Rattle.flow_verify.specs.Needs.{test_of, tests_of}
-use Rattle.flow_verify.proofs.Taking.{all_at, takes_none, need_next, need_lacks, needs_end}
+use Rattle.flow_verify.proofs.families.Taking.{all_at, takes_none, need_next, need_lacks, needs_end}
 use Rattle.flow_verify.proofs.need.takes.Goals as goal
 
 pub returns-then-needs-frame-clause-takes : goal.returns-then-needs-frame-clause-takes

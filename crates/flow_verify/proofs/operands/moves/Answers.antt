@@ -5,7 +5,7 @@ use Rattle.body_form.specs.declared.types.VType.{VType}
 use Rattle.type_table.specs.Frames.{frame_of}
 use Rattle.type_table.proofs.Lengths.{frame_is_high}
 use Rattle.flow_verify.specs.Moves.{picked}
-use Rattle.flow_verify.proofs.Moving.{not_moved, moved, is_there, picked_more}
+use Rattle.flow_verify.proofs.families.Moving.{not_moved, moved, is_there, picked_more}
 use Rattle.flow_verify.proofs.operands.moves.Goals as goal
 
 pub returns-then-frame-pops-clause-change : goal.returns-then-frame-pops-clause-change

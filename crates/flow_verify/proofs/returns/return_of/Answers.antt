@@ -1,7 +1,7 @@
 -- No value fits a type that is absent.
 use Rattle.std.proofs.Common.{sym}
 use Rattle.type_table.specs.Frames.{frame_of}
-use Rattle.flow_verify.proofs.Returning.{none_returned}
+use Rattle.flow_verify.proofs.families.Returning.{none_returned}
 use Rattle.flow_verify.proofs.returns.return_of.Goals as goal
 
 pub returns-in-None-clause-change : goal.returns-in-None-clause-change

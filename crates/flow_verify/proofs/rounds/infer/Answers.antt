@@ -3,7 +3,7 @@ use Rattle.std.proofs.Common.{vec_len, ◌≡◌, ℕ, ◌<◌, List, [], length
 use Rattle.std.specs.List.{AllByRecursion}
 use Rattle.std.proofs.lemmas.List.{nil_from_length}
 use Rattle.std.proofs.lemmas.Bool.{eqb-true}
-use Rattle.flow_verify.proofs.RoundSteps.{IsBefore, before_all, failing_is, before_then, quiet_round, quiet_frames}
+use Rattle.flow_verify.proofs.waves.RoundSteps.{IsBefore, before_all, failing_is, before_then, quiet_round, quiet_frames}
 use Rattle.flow_verify.proofs.rounds.infer.Goals as goal
 
 pub loop-round-init : goal.loop-round-init

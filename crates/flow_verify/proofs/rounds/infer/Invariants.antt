@@ -1,4 +1,4 @@
-use Rattle.flow_verify.proofs.RoundSteps.{IsBefore}
+use Rattle.flow_verify.proofs.waves.RoundSteps.{IsBefore}
 use Rattle.flow_verify.proofs.rounds.infer.Given as goal
 
 abbrev pub invariant-loop-round : goal.invariant-loop-round

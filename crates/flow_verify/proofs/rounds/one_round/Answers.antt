@@ -6,7 +6,7 @@ use Rattle.flow_verify.specs.KnownFrames.{Entries}
 use Rattle.flow_verify.specs.Lowest.{IsLowest}
 use Rattle.flow_verify.specs.Outcomes.{IsRound}
 use Rattle.flow_verify.specs.Waves.{sent_at, Adds, UnruledIn}
-use Rattle.flow_verify.proofs.WholeRounds.{kept_then, all_within, all_sound, round_is}
+use Rattle.flow_verify.proofs.waves.WholeRounds.{kept_then, all_within, all_sound, round_is}
 use Rattle.flow_verify.proofs.rounds.one_round.Goals as goal
 
 abbrev IsSent : goal.After-arrive_all-arg-1 → Type 0

@@ -6,7 +6,7 @@ use Rattle.type_table.specs.Frames.{IsFrame}
 use Rattle.type_table.specs.declared.store.FrameId.{FrameId}
 use Rattle.flow_verify.specs.KnownFrames.{Entries}
 use Rattle.flow_verify.specs.KnownRows.{row_of}
-use Rattle.flow_verify.proofs.RowTables.{rows_there}
+use Rattle.flow_verify.proofs.waves.RowTables.{rows_there}
 use Rattle.flow_verify.proofs.rows.types_of.Goals as goal
 
 pub of-requires : goal.of-requires

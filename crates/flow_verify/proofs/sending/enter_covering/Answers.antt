@@ -6,8 +6,8 @@ use Rattle.jvm_model.specs.TypesRight.{Sent}
 use Rattle.type_table.specs.Frames.{frame_of}
 use Rattle.type_table.proofs.Growing.{frame_stays}
 use Rattle.flow_verify.specs.Waves.{Adds}
-use Rattle.flow_verify.proofs.Adding.{adds_none}
-use Rattle.flow_verify.proofs.Handlers.{handlers_covering, handlers_beyond, enter_both}
+use Rattle.flow_verify.proofs.waves.Adding.{adds_none}
+use Rattle.flow_verify.proofs.waves.Handlers.{handlers_covering, handlers_beyond, enter_both}
 use Rattle.flow_verify.proofs.sending.enter_covering.Goals as goal
 
 pub returns-then-not-covers-clause-sent : goal.returns-then-not-covers-clause-sent

@@ -7,8 +7,8 @@ use Rattle.jvm_model.specs.TypesRight.{Sent, sent_to_handlers}
 use Rattle.type_table.specs.Frames.{frame_of}
 use Rattle.type_table.proofs.Growing.{frame_stays, grows_along}
 use Rattle.flow_verify.specs.Waves.{Adds}
-use Rattle.flow_verify.proofs.Adding.{Sends, sends_none, sends_more}
-use Rattle.flow_verify.proofs.Handlers.{handlers_none, handlers_more}
+use Rattle.flow_verify.proofs.waves.Adding.{Sends, sends_none, sends_more}
+use Rattle.flow_verify.proofs.waves.Handlers.{handlers_none, handlers_more}
 use Rattle.flow_verify.proofs.sending.enter_handlers.Goals as goal
 
 -- what stands for a row past the end

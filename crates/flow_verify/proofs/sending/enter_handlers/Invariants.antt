@@ -2,7 +2,7 @@ use Rattle.std.proofs.Common.{take, filter}
 use Rattle.body_form.specs.Flow.{covers}
 use Rattle.jvm_model.specs.TypesRight.{sent_to_handlers}
 use Rattle.type_table.specs.Frames.{frame_of}
-use Rattle.flow_verify.proofs.Adding.{Sends}
+use Rattle.flow_verify.proofs.waves.Adding.{Sends}
 use Rattle.flow_verify.proofs.sending.enter_handlers.Given as goal
 
 abbrev pub invariant-loop-guard : goal.invariant-loop-guard

@@ -6,9 +6,9 @@ use Rattle.type_table.specs.Frames.{frame_of}
 use Rattle.type_table.proofs.Growing.{frame_stays}
 use Rattle.flow_verify.specs.KnownFrames.{IsSound}
 use Rattle.flow_verify.specs.Waves.{Adds}
-use Rattle.flow_verify.proofs.Positions.{pc_of_position, start_here}
-use Rattle.flow_verify.proofs.SentAt.{at_index, sent_is, sent_unruled, is_unruled, is_ruled, one_unruled, frame_known, at_known, rule_found, rule_fails}
-use Rattle.flow_verify.proofs.Adding.{adds_none}
+use Rattle.flow_verify.proofs.waves.Positions.{pc_of_position, start_here}
+use Rattle.flow_verify.proofs.waves.SentAt.{at_index, sent_is, sent_unruled, is_unruled, is_ruled, one_unruled, frame_known, at_known, rule_found, rule_fails}
+use Rattle.flow_verify.proofs.waves.Adding.{adds_none}
 use Rattle.flow_verify.proofs.sending.send_at.Goals as goal
 
 pub frame_after-requires-clause-there : goal.frame_after-requires-clause-there

@@ -6,7 +6,7 @@ use Rattle.jvm_model.specs.TypesRight.{sent_to_handlers}
 use Rattle.type_table.specs.Frames.{frame_of}
 use Rattle.type_table.proofs.Growing.{grows_itself}
 use Rattle.flow_verify.specs.Waves.{sent_with}
-use Rattle.flow_verify.proofs.Adding.{Sends, sends_more}
+use Rattle.flow_verify.proofs.waves.Adding.{Sends, sends_more}
 use Rattle.flow_verify.proofs.sending.send_from.Goals as goal
 
 pub returns-clause-sent : goal.returns-clause-sent

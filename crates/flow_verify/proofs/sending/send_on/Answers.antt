@@ -4,7 +4,7 @@ use Rattle.std.proofs.lemmas.List.{take_all}
 use Rattle.body_form.specs.Flow.{successors}
 use Rattle.type_table.specs.Frames.{frame_of}
 use Rattle.flow_verify.specs.Waves.{sent_with, Adds}
-use Rattle.flow_verify.proofs.Adding.{adds_none, adds_mapped}
+use Rattle.flow_verify.proofs.waves.Adding.{adds_none, adds_mapped}
 use Rattle.flow_verify.proofs.sending.send_on.Goals as goal
 
 pub loop-to-init : goal.loop-to-init

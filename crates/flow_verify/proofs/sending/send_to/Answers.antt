@@ -1,7 +1,7 @@
 -- A frame is added where an instruction is at the pc.
 use Rattle.std.proofs.Common.{refl}
-use Rattle.flow_verify.proofs.Positions.{start_here}
-use Rattle.flow_verify.proofs.Adding.{adds_one, adds_nowhere}
+use Rattle.flow_verify.proofs.waves.Positions.{start_here}
+use Rattle.flow_verify.proofs.waves.Adding.{adds_one, adds_nowhere}
 use Rattle.type_table.specs.Frames.{frame_of}
 use Rattle.flow_verify.proofs.sending.send_to.Goals as goal
 

@@ -5,9 +5,9 @@ use Rattle.jvm_model.specs.TypesRight.{Sent}
 use Rattle.type_table.proofs.Growing.{grows_along}
 use Rattle.flow_verify.specs.Lowest.{IsLowest, lower_of}
 use Rattle.flow_verify.specs.Waves.{sent_at, Adds, IsUnruled, UnruledIn}
-use Rattle.flow_verify.proofs.LowestPcs.{lowest_same, lowest_both}
-use Rattle.flow_verify.proofs.StillKnown.{sound_still, sent_still, unruled_then, unruled_before, flat_more, unruled_more, unruled_cases}
-use Rattle.flow_verify.proofs.Adding.{Sends, sends_more}
+use Rattle.flow_verify.proofs.waves.LowestPcs.{lowest_same, lowest_both}
+use Rattle.flow_verify.proofs.waves.StillKnown.{sound_still, sent_still, unruled_then, unruled_before, flat_more, unruled_more, unruled_cases}
+use Rattle.flow_verify.proofs.waves.Adding.{Sends, sends_more}
 use Rattle.flow_verify.proofs.sending.send_wave.Goals as goal
 
 pub send_at-requires-clause-sound : goal.send_at-requires-clause-sound

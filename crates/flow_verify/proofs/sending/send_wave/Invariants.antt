@@ -2,7 +2,7 @@ use Rattle.std.proofs.Common.{[], take}
 use Rattle.std.specs.List.{flat_map}
 use Rattle.flow_verify.specs.Lowest.{IsLowest}
 use Rattle.flow_verify.specs.Waves.{sent_at, UnruledIn}
-use Rattle.flow_verify.proofs.Adding.{Sends}
+use Rattle.flow_verify.proofs.waves.Adding.{Sends}
 use Rattle.flow_verify.proofs.sending.send_wave.Given as goal
 
 abbrev pub invariant-loop-position : goal.invariant-loop-position

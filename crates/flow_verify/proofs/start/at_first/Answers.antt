@@ -2,7 +2,7 @@
 use Rattle.std.proofs.Common.{◌≡◌, ℕ, List, length, Some, None, replicate, set, refl, ap, subst, ◌∙◌}
 use Rattle.flow_verify.specs.KnownFrames.{Entries}
 use Rattle.flow_verify.specs.Merging.{IsListed}
-use Rattle.flow_verify.proofs.FirstKnown.{stored_nowhere, stored_here}
+use Rattle.flow_verify.proofs.waves.FirstKnown.{stored_nowhere, stored_here}
 use Rattle.flow_verify.proofs.start.at_first.Goals as goal
 
 pub returns-in_ok-put-in-Some : goal.returns-in_ok-put-in-Some

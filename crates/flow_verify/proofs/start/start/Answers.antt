@@ -3,7 +3,7 @@ use Rattle.std.proofs.lemmas.Result.{IfOk-weaker}
 use Rattle.flow_verify.specs.declared.start.First.{First}
 use Rattle.flow_verify.specs.Starting.{IsStored}
 use Rattle.flow_verify.specs.Outcomes.{IsFirst}
-use Rattle.flow_verify.proofs.FirstKnown.{first_is}
+use Rattle.flow_verify.proofs.waves.FirstKnown.{first_is}
 use Rattle.flow_verify.proofs.start.start.Goals as goal
 
 pub returns : goal.returns

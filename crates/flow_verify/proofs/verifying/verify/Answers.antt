@@ -7,8 +7,8 @@ use Rattle.type_table.specs.Types.{Rows, table_of}
 use Rattle.flow_verify.specs.declared.verifying.VerifyRefusal.TheVariants.{Unverified}
 use Rattle.flow_verify.specs.KnownRows.{known_rows}
 use Rattle.flow_verify.specs.Verified.{AreReached}
-use Rattle.flow_verify.proofs.RowTables.{rows_rise}
-use Rattle.flow_verify.proofs.Answering.{types_are_least, reached_rows, quiet_outcome, failing_outcome}
+use Rattle.flow_verify.proofs.waves.RowTables.{rows_rise}
+use Rattle.flow_verify.proofs.waves.Answering.{types_are_least, reached_rows, quiet_outcome, failing_outcome}
 use Rattle.flow_verify.proofs.verifying.verify.Goals as goal
 
 is_least : (c : goal.In-Ok) → IsLeast c.args.set.now c.args.body.now (table_of c.in-Ok.types)

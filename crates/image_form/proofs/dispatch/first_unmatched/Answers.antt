@@ -1,6 +1,6 @@
 use Rattle.std.proofs.Common.{sym, ◌∙◌, arith}
 use Rattle.image_form.specs.Reading.{first_unmatched}
-use Rattle.image_form.proofs.Unmatched.{goes_on, ends, is_done}
+use Rattle.image_form.proofs.format.Unmatched.{goes_on, ends, is_done}
 use Rattle.image_form.proofs.dispatch.first_unmatched.Goals as goal
 
 pub returns-then-not-is_entry_matched : goal.returns-then-not-is_entry_matched

@@ -1,4 +1,4 @@
-use Rattle.image_form.proofs.Whole.{one_image, no_prefix}
+use Rattle.image_form.proofs.format.Whole.{one_image, no_prefix}
 use Rattle.image_form.proofs.laws.encoding_is_injective.Goals as goal
 
 pub returns-clause-image : goal.returns-clause-image

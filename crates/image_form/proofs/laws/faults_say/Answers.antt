@@ -1,4 +1,4 @@
-use Rattle.image_form.proofs.TablesSay.{bad_table_is}
+use Rattle.image_form.proofs.faults.TablesSay.{bad_table_is}
 use Rattle.image_form.proofs.laws.faults_say.Goals as goal
 
 pub returns : goal.returns

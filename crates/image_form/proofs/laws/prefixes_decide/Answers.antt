@@ -1,4 +1,4 @@
-use Rattle.image_form.proofs.Prefixes.{prefixes_are_truncated, faults_hold, prefixes_of_faults, prefixes_of_truncated, none_begins}
+use Rattle.image_form.proofs.faults.Prefixes.{prefixes_are_truncated, faults_hold, prefixes_of_faults, prefixes_of_truncated, none_begins}
 use Rattle.image_form.proofs.laws.prefixes_decide.Goals as goal
 
 pub returns-clause-cut : goal.returns-clause-cut

@@ -1,4 +1,4 @@
-use Rattle.image_form.proofs.SmallImage.{small_is_image}
+use Rattle.image_form.proofs.format.SmallImage.{small_is_image}
 use Rattle.image_form.proofs.laws.small_is_image.Goals as goal
 
 pub returns : goal.returns

@@ -1,6 +1,6 @@
 use Rattle.std.proofs.Common.{arith}
-use Rattle.image_form.proofs.AtOnce.{at_once}
-use Rattle.image_form.proofs.Refusals.{is_found, is_read, is_refused, is_answered}
+use Rattle.image_form.proofs.faults.AtOnce.{at_once}
+use Rattle.image_form.proofs.faults.Refusals.{is_found, is_read, is_refused, is_answered}
 use Rattle.image_form.proofs.read.read_image.Goals as goal
 
 pub returns-clause-found : goal.returns-clause-found

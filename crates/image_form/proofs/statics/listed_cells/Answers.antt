@@ -1,7 +1,7 @@
 use Rattle.std.proofs.Common.{◌≡◌, ◌++◌, ◌∷◌, [], inr}
 use Rattle.std.proofs.lemmas.Result.{err_from_is_err_and}
 use Rattle.image_form.specs.Reading.{items_at, cell_at}
-use Rattle.image_form.proofs.Items.{err_shows, goes_on, ends, is_done}
+use Rattle.image_form.proofs.format.Items.{err_shows, goes_on, ends, is_done}
 use Rattle.image_form.proofs.statics.listed_cells.Goals as goal
 
 pub returns-in_err-cell : goal.returns-in_err-cell

@@ -1,7 +1,7 @@
 use Rattle.std.proofs.Common.{◌≡◌, ◌++◌, ◌∷◌, []}
 use Rattle.std.proofs.lemmas.Result.{err_from_is_err_and}
 use Rattle.image_form.specs.Reading.{items_at, interface_at}
-use Rattle.image_form.proofs.Items.{goes_on, ends, is_done}
+use Rattle.image_form.proofs.format.Items.{goes_on, ends, is_done}
 use Rattle.image_form.proofs.types.listed_interfaces.Goals as goal
 
 pub returns-in_err-interface : goal.returns-in_err-interface

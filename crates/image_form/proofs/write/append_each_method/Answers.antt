@@ -1,7 +1,7 @@
 use Rattle.std.proofs.Common.{[]}
 use Rattle.image_form.specs.Format.{method_bytes}
 use Rattle.image_form.specs.Grammar.{IsMethod}
-use Rattle.image_form.proofs.Written.{written_more, each_at}
+use Rattle.image_form.proofs.format.Written.{written_more, each_at}
 use Rattle.image_form.proofs.write.append_each_method.Goals as goal
 
 pub append_method-requires : goal.append_method-requires

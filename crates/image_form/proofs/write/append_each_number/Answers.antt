@@ -1,5 +1,5 @@
 use Rattle.image_instr.specs.Insn.{u2}
-use Rattle.image_form.proofs.Written.{written_at}
+use Rattle.image_form.proofs.format.Written.{written_at}
 use Rattle.image_form.proofs.write.append_each_number.Goals as goal
 
 pub loop-number-preserved : goal.loop-number-preserved

@@ -1,5 +1,5 @@
 use Rattle.image_form.specs.Format.{row_bytes}
-use Rattle.image_form.proofs.Written.{written_at}
+use Rattle.image_form.proofs.format.Written.{written_at}
 use Rattle.image_form.proofs.write.append_each_row.Goals as goal
 
 pub loop-row-preserved : goal.loop-row-preserved

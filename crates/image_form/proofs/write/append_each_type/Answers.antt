@@ -1,7 +1,7 @@
 use Rattle.std.proofs.Common.{[]}
 use Rattle.image_form.specs.Format.{type_bytes}
 use Rattle.image_form.specs.Grammar.{IsType}
-use Rattle.image_form.proofs.Written.{written_more, each_at}
+use Rattle.image_form.proofs.format.Written.{written_more, each_at}
 use Rattle.image_form.proofs.write.append_each_type.Goals as goal
 
 pub append_type-requires : goal.append_type-requires

@@ -1,6 +1,6 @@
 use Rattle.std.proofs.Common.{arith, drop, ◌∙◌}
-use Rattle.image_instr.proofs.Bytes.{IsBytes-drop}
-use Rattle.image_instr.proofs.Decode.{found_holds, prefix_found, prefix_rows, none_holds}
+use Rattle.image_instr.proofs.encoding.Bytes.{IsBytes-drop}
+use Rattle.image_instr.proofs.encoding.Decode.{found_holds, prefix_found, prefix_rows, none_holds}
 use Rattle.image_instr.proofs.read.decode_at.Goals as goal
 
 pub returns-clause-found : goal.returns-clause-found

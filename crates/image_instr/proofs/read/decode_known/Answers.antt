@@ -2,8 +2,8 @@ use Rattle.std.proofs.Common.{arith, drop, subst}
 use Rattle.std.specs.Prelude.{IfSome}
 use Rattle.image_instr.specs.Insn.{IsAtPrefix}
 use Rattle.image_instr.specs.Reading.{rows_at}
-use Rattle.image_instr.proofs.Bytes.{IsBytes-drop}
-use Rattle.image_instr.proofs.Decode.{found_holds}
+use Rattle.image_instr.proofs.encoding.Bytes.{IsBytes-drop}
+use Rattle.image_instr.proofs.encoding.Decode.{found_holds}
 use Rattle.image_instr.proofs.read.decode_known.Goals as goal
 
 pub returns-clause-found : goal.returns-clause-found

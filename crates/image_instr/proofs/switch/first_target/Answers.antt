@@ -2,7 +2,7 @@ use Rattle.std.proofs.Common.{◌≡◌, arith, ◌∙◌, ap, w32, to_z, of_z}
 use Rattle.std.proofs.lemmas.Int.{to_z-of_z}
 use Rattle.std.proofs.lemmas.List.{drop-drop}
 use Rattle.image_instr.specs.Switch.{default_of, target_in}
-use Rattle.image_instr.proofs.SwitchPrefix.{switch_there, switch_at}
+use Rattle.image_instr.proofs.switches.SwitchPrefix.{switch_there, switch_at}
 use Rattle.image_instr.proofs.switch.first_target.Goals as goal
 
 pub bytes_from-operands-requires : goal.bytes_from-operands-requires

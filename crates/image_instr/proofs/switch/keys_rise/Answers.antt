@@ -1,7 +1,7 @@
 use Rattle.std.proofs.Common.{◌≡◌, true, false, sym, ◌∙◌, ap, arith, rules, length-drop, FitsSigned, w32, to_z, of_z}
 use Rattle.std.proofs.lemmas.Int.{to_z-of_z}
 use Rattle.image_instr.specs.Reading.{is_above, key_in}
-use Rattle.image_instr.proofs.RowTests.{keys_rise-done, keys_rise-falls, keys_rise-goes_on}
+use Rattle.image_instr.proofs.switches.RowTests.{keys_rise-done, keys_rise-falls, keys_rise-goes_on}
 use Rattle.image_instr.proofs.switch.keys_rise.Goals as goal
 
 pub returns-then-not-is_above : goal.returns-then-not-is_above

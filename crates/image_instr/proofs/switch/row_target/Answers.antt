@@ -3,7 +3,7 @@ use Rattle.std.proofs.lemmas.Int.{to_z-of_z}
 use Rattle.byteorder.specs.Endian.{big_number}
 use Rattle.image_instr.specs.Reading.{key_in, rows_in}
 use Rattle.image_instr.specs.Switch.{target_in}
-use Rattle.image_instr.proofs.Search.{rise_right, rise_left, go_right, go_left, found_here, none_left, less, greater}
+use Rattle.image_instr.proofs.switches.Search.{rise_right, rise_left, go_right, go_left, found_here, none_left, less, greater}
 use Rattle.image_instr.proofs.switch.row_target.Goals as goal
 
 pub returns-then-key-wanted : goal.returns-then-key-wanted

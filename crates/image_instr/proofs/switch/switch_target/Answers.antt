@@ -1,6 +1,6 @@
 use Rattle.std.proofs.Common.{arith, drop, length-drop}
-use Rattle.image_instr.proofs.Bytes.{IsBytes-drop}
-use Rattle.image_instr.proofs.SwitchPrefix.{switch_there}
+use Rattle.image_instr.proofs.encoding.Bytes.{IsBytes-drop}
+use Rattle.image_instr.proofs.switches.SwitchPrefix.{switch_there}
 use Rattle.image_instr.proofs.switch.switch_target.Goals as goal
 
 pub bytes_from-requires : goal.bytes_from-requires

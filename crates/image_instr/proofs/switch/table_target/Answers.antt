@@ -1,6 +1,6 @@
 use Rattle.std.proofs.Common.{◌≡◌, ℤ, ◌+ℤ◌, pos, sym, ◌∙◌, ap, w32, to_z, of_z}
 use Rattle.std.proofs.lemmas.Int.{to_z-of_z}
-use Rattle.image_instr.proofs.Targets.{targets-outside, targets-at}
+use Rattle.image_instr.proofs.switches.Targets.{targets-outside, targets-at}
 use Rattle.image_instr.proofs.switch.table_target.Goals as goal
 
 pub returns-in-Some : goal.returns-in-Some

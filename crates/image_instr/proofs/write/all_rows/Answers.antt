@@ -1,6 +1,6 @@
 use Rattle.std.proofs.lemmas.List.Elements.{All-more}
 use Rattle.image_instr.specs.Insn.{row_bytes, HasRowRanges}
-use Rattle.image_instr.proofs.Written.{written_more}
+use Rattle.image_instr.proofs.encoding.Written.{written_more}
 use Rattle.image_instr.proofs.write.all_rows.Goals as goal
 
 pub loop-each-preserved : goal.loop-each-preserved

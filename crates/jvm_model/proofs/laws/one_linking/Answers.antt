@@ -1,5 +1,5 @@
 use Rattle.std.proofs.Common.{refl, sym, ◌∙◌}
-use Rattle.jvm_model.proofs.OneLinking.{linking_total, linking_unique}
+use Rattle.jvm_model.proofs.phases.OneLinking.{linking_total, linking_unique}
 use Rattle.jvm_model.proofs.laws.one_linking.Goals as goal
 
 pub returns-clause-total : goal.returns-clause-total

@@ -1,4 +1,4 @@
-use Rattle.jvm_model.proofs.AnswersLeft.{run_left, limited_left, set_left}
+use Rattle.jvm_model.proofs.runs.AnswersLeft.{run_left, limited_left, set_left}
 use Rattle.jvm_model.proofs.laws.runs_leave_the_rest.Goals as goal
 
 pub returns-clause-run : goal.returns-clause-run

@@ -2,7 +2,7 @@ use Rattle.std.proofs.Common.{refl, ap, rules}
 use mir.Syntax.{w32}
 use mir.Val.{SFits}
 use Rattle.std.proofs.lemmas.Int.{to_z-of_z}
-use Rattle.mote_core.proofs.Acting.{acts-next, acts-jump, acts-throw, acts-return}
+use Rattle.mote_core.proofs.dialogues.Acting.{acts-next, acts-jump, acts-throw, acts-return}
 use Rattle.mote_core.proofs.act.act.Goals as goal
 
 pub returns-in-Jump-clause-acts : goal.returns-in-Jump-clause-acts

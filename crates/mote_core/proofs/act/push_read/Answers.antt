@@ -3,7 +3,7 @@ use mir.Syntax.{w32}
 use mir.Val.{SFits}
 use Rattle.std.proofs.lemmas.Int.{to_z-of_z}
 use Rattle.mote_core.specs.Turns.{with_top}
-use Rattle.mote_core.proofs.Acting.{acts-read, acts-read-spent, acts-read-broke}
+use Rattle.mote_core.proofs.dialogues.Acting.{acts-read, acts-read-spent, acts-read-broke}
 use Rattle.mote_core.proofs.act.push_read.Goals as goal
 
 pub returns-then-not-tick-clause-acts : goal.returns-then-not-tick-clause-acts

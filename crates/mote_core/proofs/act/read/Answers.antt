@@ -5,7 +5,7 @@ use Rattle.std.proofs.lemmas.Int.{to_z-of_z}
 use Rattle.std.proofs.lemmas.Result.{err_from_is_err_and}
 use Rattle.host_face.specs.Console.{Takes}
 use Rattle.mote_core.specs.Acts.{IsRead}
-use Rattle.mote_core.proofs.Puts.{BrokeOff-get, read-byte, read-end, untold-fails}
+use Rattle.mote_core.proofs.dialogues.Puts.{BrokeOff-get, read-byte, read-end, untold-fails}
 use Rattle.mote_core.proofs.act.read.Goals as goal
 
 pub returns-in_err-byte-clause-said : goal.returns-in_err-byte-clause-said

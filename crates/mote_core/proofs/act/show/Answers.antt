@@ -2,7 +2,7 @@ use Rattle.std.proofs.Common.{◌+◌, ◌∷◌, [], take, drop, get_or, ◌∙
 use Rattle.std.proofs.lemmas.Result.{err_from_is_err_and}
 use Rattle.dialogue.specs.Dialogue.{Put, putting, gets-putting}
 use Rattle.host_face.proofs.TalkLemmas.{Talked-then, Talked-put, BrokeOff-then, BrokeOff-put, same-without}
-use Rattle.mote_core.proofs.Puts.{putting-more, putting-parts}
+use Rattle.mote_core.proofs.dialogues.Puts.{putting-more, putting-parts}
 use Rattle.mote_core.proofs.act.show.Goals as goal
 
 pub loop-byte-preserved : goal.loop-byte-preserved

@@ -6,7 +6,7 @@ use Rattle.dialogue.specs.Natives.{low_byte}
 use Rattle.dialogue.specs.Dialogue.{putting}
 use Rattle.host_face.specs.Talk.{Talked, BrokeOff}
 use Rattle.mote_core.specs.declared.turn.Turn.TheVariants.{Write}
-use Rattle.mote_core.proofs.Acting.{acts-show, acts-show-spent, acts-show-broke}
+use Rattle.mote_core.proofs.dialogues.Acting.{acts-show, acts-show-spent, acts-show-broke}
 use Rattle.mote_core.proofs.act.write.Goals as goal
 
 pub returns-then-not-tick-clause-acts : goal.returns-then-not-tick-clause-acts

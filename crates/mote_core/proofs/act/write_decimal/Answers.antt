@@ -6,7 +6,7 @@ use Rattle.std.specs.Fmt.{signed_decimal}
 use Rattle.dialogue.specs.Dialogue.{putting}
 use Rattle.host_face.specs.Talk.{Talked, BrokeOff}
 use Rattle.mote_core.specs.declared.turn.Turn.TheVariants.{Print}
-use Rattle.mote_core.proofs.Acting.{acts-show, acts-show-spent, acts-show-broke}
+use Rattle.mote_core.proofs.dialogues.Acting.{acts-show, acts-show-spent, acts-show-broke}
 use Rattle.mote_core.proofs.act.write_decimal.Goals as goal
 
 pub returns-then-not-tick-clause-acts : goal.returns-then-not-tick-clause-acts

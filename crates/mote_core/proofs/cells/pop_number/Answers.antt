@@ -3,7 +3,7 @@ use mir.Syntax.{w32}
 use mir.Val.{SFits}
 use Rattle.std.proofs.lemmas.Int.{to_z-of_z}
 use Rattle.cell_num.specs.Cells.{joined_cells}
-use Rattle.mote_core.proofs.Tops.{same_pair}
+use Rattle.mote_core.proofs.turns.Tops.{same_pair}
 use Rattle.mote_core.proofs.cells.pop_number.Goals as goal
 
 pub returns-clause-number : goal.returns-clause-number

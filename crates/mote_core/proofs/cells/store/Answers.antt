@@ -1,6 +1,6 @@
 use Rattle.std.proofs.Common.{sym, ◌∙◌}
 use Rattle.mote_model.specs.Machine.{with_local}
-use Rattle.mote_core.proofs.Tops.{same_pair}
+use Rattle.mote_core.proofs.turns.Tops.{same_pair}
 use Rattle.mote_core.proofs.cells.store.Goals as goal
 
 pub returns-clause-items : goal.returns-clause-items

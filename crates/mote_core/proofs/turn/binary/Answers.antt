@@ -5,7 +5,7 @@ use Rattle.std.proofs.lemmas.Int.{to_z-of_z}
 use Rattle.cell_num.specs.Arithmetic.{applied}
 use Rattle.mote_core.specs.Turns.{IsResult, with_top}
 use Rattle.mote_core.specs.declared.turn.Turn.TheVariants.{Next, Throw}
-use Rattle.mote_core.proofs.Tops.{two_after}
+use Rattle.mote_core.proofs.turns.Tops.{two_after}
 use Rattle.mote_core.proofs.turn.binary.Goals as goal
 
 pub returns-in-Some-clause-turn : goal.returns-in-Some-clause-turn

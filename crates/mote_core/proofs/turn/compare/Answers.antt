@@ -3,7 +3,7 @@ use mir.Syntax.{w32}
 use mir.Val.{SFits}
 use Rattle.std.proofs.lemmas.Int.{to_z-of_z}
 use Rattle.cell_num.specs.Conditions.{is_met}
-use Rattle.mote_core.proofs.Tops.{two_after}
+use Rattle.mote_core.proofs.turns.Tops.{two_after}
 use Rattle.mote_core.proofs.turn.compare.Goals as goal
 
 pub returns-clause-test : goal.returns-clause-test

@@ -6,8 +6,8 @@ use Rattle.image_instr.specs.declared.insn.MInsn.TheVariants as insns
 use Rattle.image_instr.specs.Insn.{HoldsAt}
 use Rattle.image_instr.specs.Reading.{rows_at}
 use Rattle.mote_core.specs.Turns.{CanRun, with_top}
-use Rattle.mote_core.proofs.TurnSteps.{turn-constant, turn-pop}
-use Rattle.mote_core.proofs.Executes.{run-load, run-store, run-inc, run-bin, run-neg, run-sx, run-zx, run-sb, run-jz, run-jcmp, run-switch, run-table}
+use Rattle.mote_core.proofs.turns.TurnSteps.{turn-constant, turn-pop}
+use Rattle.mote_core.proofs.turns.Executes.{run-load, run-store, run-inc, run-bin, run-neg, run-sx, run-zx, run-sb, run-jz, run-jcmp, run-switch, run-table}
 use Rattle.mote_core.proofs.turn.execute.Goals as goal
 
 pub returns-in-Load-clause-turn : goal.returns-in-Load-clause-turn

@@ -2,7 +2,7 @@ use Rattle.std.proofs.Common.{◌∙◌, rules}
 use mir.Syntax.{w32}
 use mir.Val.{SFits}
 use Rattle.std.proofs.lemmas.Int.{to_z-of_z}
-use Rattle.mote_core.proofs.TurnSteps.{turn-write, turn-print, is_write, is_print}
+use Rattle.mote_core.proofs.turns.TurnSteps.{turn-write, turn-print, is_write, is_print}
 use Rattle.mote_core.proofs.turn.native.Goals as goal
 
 pub returns-then-method-eq-WRITE-clause-turn : goal.returns-then-method-eq-WRITE-clause-turn

@@ -1,5 +1,5 @@
-use Rattle.image_form.proofs.Whole.{one_image}
-use Rattle.mote_top.proofs.Sets.{infusion_is_one}
+use Rattle.image_form.proofs.format.Whole.{one_image}
+use Rattle.mote_top.proofs.replies.Sets.{infusion_is_one}
 use Rattle.mote_top.proofs.laws.infusions_are_one_or_none.Goals as goal
 
 pub returns-clause-exclusive : goal.returns-clause-exclusive

@@ -1,7 +1,7 @@
 use Rattle.std.proofs.Common.{◌≡◌, ap, subst, ◌∙◌}
 use Rattle.mote_core.specs.Ready.{Ready}
 use Rattle.mote_core.specs.Ran.{Ran}
-use Rattle.mote_top.proofs.RunAnswers.{run_answers}
+use Rattle.mote_top.proofs.replies.RunAnswers.{run_answers}
 use Rattle.mote_top.proofs.machine.run_checked.Goals as goal
 
 pub returns : goal.returns

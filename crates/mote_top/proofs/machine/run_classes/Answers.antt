@@ -8,8 +8,8 @@ use Rattle.mote_top.specs.Words.{limits_in}
 use Rattle.mote_top.specs.Call.{spoken}
 use Rattle.mote_top.specs.Reply.{Reply, RunsImage, SetReplies, dialogue_of}
 use Rattle.mote_top.specs.Answer.{Answers}
-use Rattle.mote_top.proofs.Answering.{Answers-weaker, Answers-quiet, untouched}
-use Rattle.mote_top.proofs.Sets.{set_runs, refused_status, refused_may}
+use Rattle.mote_top.proofs.replies.Answering.{Answers-weaker, Answers-quiet, untouched}
+use Rattle.mote_top.proofs.replies.Sets.{set_runs, refused_status, refused_may}
 use Rattle.mote_top.proofs.machine.run_classes.Goals as goal
 
 pub check-requires : goal.check-requires

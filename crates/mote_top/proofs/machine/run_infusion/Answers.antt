@@ -3,8 +3,8 @@ use Rattle.image_form.specs.declared.record.Image.{Image}
 use Rattle.mote_top.specs.Words.{limits_in}
 use Rattle.mote_top.specs.Call.{spoken}
 use Rattle.mote_top.specs.Reply.{Reply, RunsImage, InfusionReplies, dialogue_of}
-use Rattle.mote_top.proofs.Answering.{Answers-weaker, Answers-quiet}
-use Rattle.mote_top.proofs.Sets.{infusion_runs, form_may, check_may}
+use Rattle.mote_top.proofs.replies.Answering.{Answers-weaker, Answers-quiet}
+use Rattle.mote_top.proofs.replies.Sets.{infusion_runs, form_may, check_may}
 use Rattle.mote_top.proofs.machine.run_infusion.Goals as goal
 
 pub returns-in-Err : goal.returns-in-Err

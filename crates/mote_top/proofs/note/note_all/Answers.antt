@@ -4,7 +4,7 @@ use Rattle.std.proofs.lemmas.List.{take_all}
 use Rattle.dialogue.specs.Dialogue.{Note, noting, gets-noting}
 use Rattle.host_face.specs.Talk.{Talked}
 use Rattle.host_face.proofs.TalkLemmas.{same-without, Talked-nothing, Talked-then, Talked-note, BrokeOff-then, BrokeOff-note}
-use Rattle.mote_top.proofs.Notes.{noting-more, noting-parts}
+use Rattle.mote_top.proofs.replies.Notes.{noting-more, noting-parts}
 use Rattle.mote_top.proofs.note.note_all.Goals as goal
 
 pub loop-byte-init : goal.loop-byte-init

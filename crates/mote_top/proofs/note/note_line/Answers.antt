@@ -4,7 +4,7 @@ use Rattle.std.proofs.lemmas.List.{take_all, append-nil}
 use Rattle.dialogue.specs.Dialogue.{noting}
 use Rattle.host_face.specs.Talk.{Talked, BrokeOff, Says}
 use Rattle.mote_top.specs.Status.{blank_number}
-use Rattle.mote_top.proofs.Notes.{Noting-prefix, Noting-broke, Noting-then, Noting-last, numbers_of, numbers-more, line-parts, line-end}
+use Rattle.mote_top.proofs.replies.Notes.{Noting-prefix, Noting-broke, Noting-then, Noting-last, numbers_of, numbers-more, line-parts, line-end}
 use Rattle.mote_top.proofs.note.note_line.Goals as goal
 
 pub returns-in_err-note_number-clause-said : goal.returns-in_err-note_number-clause-said

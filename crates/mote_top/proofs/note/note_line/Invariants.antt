@@ -1,7 +1,7 @@
 use Rattle.std.proofs.Common.{◌≡◌, ◌++◌, take}
 use Rattle.dialogue.specs.Dialogue.{noting}
 use Rattle.host_face.specs.Talk.{Talked}
-use Rattle.mote_top.proofs.Notes.{numbers_of}
+use Rattle.mote_top.proofs.replies.Notes.{numbers_of}
 use Rattle.mote_top.proofs.note.note_line.Given as goal
 
 -- the word and the numbers so far are noted, and the input is as it was

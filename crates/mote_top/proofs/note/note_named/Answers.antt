@@ -1,6 +1,6 @@
 use Rattle.std.proofs.lemmas.Result.{err_from_is_err_and}
 use Rattle.mote_top.specs.Status.{blank_number}
-use Rattle.mote_top.proofs.Notes.{Noting-prefix, Noting-last}
+use Rattle.mote_top.proofs.replies.Notes.{Noting-prefix, Noting-last}
 use Rattle.mote_top.proofs.note.note_named.Goals as goal
 
 pub returns-in_err-note_all-clause-said : goal.returns-in_err-note_all-clause-said

@@ -3,7 +3,7 @@ use Rattle.std.specs.Prelude.{decimal}
 use Rattle.std.proofs.lemmas.Result.{err_from_is_err_and}
 use Rattle.dialogue.specs.Dialogue.{noting}
 use Rattle.host_face.specs.Talk.{Says}
-use Rattle.mote_top.proofs.Notes.{Noting-prefix, Noting-last}
+use Rattle.mote_top.proofs.replies.Notes.{Noting-prefix, Noting-last}
 use Rattle.mote_top.proofs.note.note_number.Goals as goal
 
 pub returns-in_err-note_all-clause-said : goal.returns-in_err-note_all-clause-said

@@ -1,7 +1,7 @@
 use Rattle.std.proofs.Common.{◌∷◌, [], ◌++◌}
 use Rattle.std.specs.Prelude.{codes}
 use Rattle.std.proofs.lemmas.Result.{err_from_is_err_and}
-use Rattle.mote_top.proofs.Notes.{Noting-prefix, Noting-last}
+use Rattle.mote_top.proofs.replies.Notes.{Noting-prefix, Noting-last}
 use Rattle.mote_top.proofs.note.note_uncaught.Goals as goal
 
 pub returns-in_err-note_all-clause-said : goal.returns-in_err-note_all-clause-said

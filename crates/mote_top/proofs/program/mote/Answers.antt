@@ -1,7 +1,7 @@
 use Rattle.std.proofs.Common.{map}
 use Rattle.std.specs.String.{string_bytes}
 use Rattle.mote_top.specs.Call.{shelved, spoken, call, after}
-use Rattle.mote_top.proofs.Keeping.{promised}
+use Rattle.mote_top.proofs.replies.Keeping.{promised}
 use Rattle.mote_top.proofs.program.mote.Goals as goal
 
 pub returns : goal.returns

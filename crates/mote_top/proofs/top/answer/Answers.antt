@@ -5,9 +5,9 @@ use Rattle.mote_top.specs.Words.{AreNames, infuse_of, run_of, go_of, opts_for, l
 use Rattle.mote_top.specs.Call.{shelved, spoken, call}
 use Rattle.mote_top.specs.Reply.{MayReply, dialogue_of}
 use Rattle.mote_top.specs.Answer.{Answers}
-use Rattle.mote_top.proofs.Answering.{Answers-quiet}
-use Rattle.mote_top.proofs.OptionWords.{opts_fit}
-use Rattle.mote_top.proofs.Positions.{go_classes, go_within, run_name, infuse_out, infuse_classes, infuse_within}
+use Rattle.mote_top.proofs.replies.Answering.{Answers-quiet}
+use Rattle.mote_top.proofs.commands.OptionWords.{opts_fit}
+use Rattle.mote_top.proofs.commands.Positions.{go_classes, go_within, run_name, infuse_out, infuse_classes, infuse_within}
 use Rattle.mote_top.proofs.top.answer.Goals as goal
 
 -- the words are infuse of these names

@@ -4,8 +4,8 @@ use Rattle.mote_top.specs.Words.{go_of, class_place, limits_in}
 use Rattle.mote_top.specs.Call.{shelved, spoken, call}
 use Rattle.mote_top.specs.Reply.{SetReplies, MayReply, HaveAll, OfGo, dialogue_of}
 use Rattle.mote_top.specs.Storing.{FailsToLoad}
-use Rattle.mote_top.proofs.Answering.{Answers-weaker, Answers-quiet}
-use Rattle.mote_top.proofs.Choices.{go_may, load_may}
+use Rattle.mote_top.proofs.replies.Answering.{Answers-weaker, Answers-quiet}
+use Rattle.mote_top.proofs.replies.Choices.{go_may, load_may}
 use Rattle.mote_top.proofs.top.go.Goals as goal
 
 pub returns-in-Ok-clause-replied : goal.returns-in-Ok-clause-replied

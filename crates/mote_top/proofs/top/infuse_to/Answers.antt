@@ -5,7 +5,7 @@ use Rattle.mote_top.specs.Words.{infuse_of}
 use Rattle.mote_top.specs.Call.{shelved}
 use Rattle.mote_top.specs.Reply.{HaveAll, IsInfusionOf, OfInfuse}
 use Rattle.mote_top.specs.Storing.{IsStored}
-use Rattle.mote_top.proofs.Choices.{load_may, infuse_refused_may, infuse_stored_may, infuse_changes}
+use Rattle.mote_top.proofs.replies.Choices.{load_may, infuse_refused_may, infuse_stored_may, infuse_changes}
 use Rattle.mote_top.proofs.top.infuse_to.Goals as goal
 
 pub returns-in-Ok-infusion_of-clause-replied : goal.returns-in-Ok-infusion_of-clause-replied

@@ -1,6 +1,6 @@
 use Rattle.std.proofs.Common.{Vec, Global, ℕ, map}
 use Rattle.infuse_link.proofs.AcceptedSets.{set_image}
-use Rattle.mote_top.proofs.Sets.{refused_status}
+use Rattle.mote_top.proofs.replies.Sets.{refused_status}
 use Rattle.mote_top.proofs.top.infusion_of.Goals as goal
 
 pub write_image-requires : goal.write_image-requires

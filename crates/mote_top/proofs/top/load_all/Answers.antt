@@ -3,8 +3,8 @@ use Rattle.std.specs.String.{string_bytes}
 use Rattle.std.proofs.lemmas.List.{map-append}
 use Rattle.host_face.specs.Shelf.{Files}
 use Rattle.mote_top.specs.Reply.{HasAt, HaveAll}
-use Rattle.mote_top.proofs.Loads.{have_more, never_then, name_there, fails_there}
-use Rattle.mote_top.proofs.WordSteps.{word_more}
+use Rattle.mote_top.proofs.replies.Loads.{have_more, never_then, name_there, fails_there}
+use Rattle.mote_top.proofs.commands.WordSteps.{word_more}
 use Rattle.mote_top.proofs.top.load_all.Goals as goal
 
 pub returns-in-Err-clause-failed : goal.returns-in-Err-clause-failed

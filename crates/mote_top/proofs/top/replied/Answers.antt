@@ -6,8 +6,8 @@ use Rattle.mote_top.specs.Words.{opts_for, opts_of, limits_in}
 use Rattle.mote_top.specs.Call.{shelved, spoken, call}
 use Rattle.mote_top.specs.Reply.{MayReply}
 use Rattle.mote_top.specs.Answer.{IsNoted}
-use Rattle.mote_top.proofs.Answering.{Answers-noted, Replied-quiet}
-use Rattle.mote_top.proofs.Choices.{words_may}
+use Rattle.mote_top.proofs.replies.Answering.{Answers-noted, Replied-quiet}
+use Rattle.mote_top.proofs.replies.Choices.{words_may}
 use Rattle.mote_top.proofs.top.replied.Goals as goal
 
 pub returns-in-Ok-clause-replied : goal.returns-in-Ok-clause-replied

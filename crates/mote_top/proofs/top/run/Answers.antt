@@ -2,8 +2,8 @@ use Rattle.std.proofs.Common.{◌∷◌, [], refl}
 use Rattle.mote_top.specs.Words.{run_of, limits_in}
 use Rattle.mote_top.specs.Call.{shelved, spoken, call}
 use Rattle.mote_top.specs.Reply.{HasAt, InfusionReplies, MayReply, OfRun, dialogue_of}
-use Rattle.mote_top.proofs.Answering.{Answers-weaker, Answers-quiet}
-use Rattle.mote_top.proofs.Choices.{run_may, load_may, one_load}
+use Rattle.mote_top.proofs.replies.Answering.{Answers-weaker, Answers-quiet}
+use Rattle.mote_top.proofs.replies.Choices.{run_may, load_may, one_load}
 use Rattle.mote_top.proofs.top.run.Goals as goal
 
 pub returns-in-Ok-clause-replied : goal.returns-in-Ok-clause-replied

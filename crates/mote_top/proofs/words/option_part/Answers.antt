@@ -3,9 +3,9 @@ use Rattle.std.specs.Prelude.{codes}
 use Rattle.std.proofs.lemmas.Option.{none-some}
 use Rattle.mote_top.specs.declared.words.Runs.TheVariants.{Infusion, Classes}
 use Rattle.mote_top.specs.Words.{IsName}
-use Rattle.mote_top.proofs.OptionWords.{options_apart, stack_is_no_name, ticks_is_no_name}
-use Rattle.mote_top.proofs.WordSteps.{no_step, first_class_step}
-use Rattle.mote_top.proofs.WordTests.{word-is, word-is_not}
+use Rattle.mote_top.proofs.commands.OptionWords.{options_apart, stack_is_no_name, ticks_is_no_name}
+use Rattle.mote_top.proofs.commands.WordSteps.{no_step, first_class_step}
+use Rattle.mote_top.proofs.commands.WordTests.{word-is, word-is_not}
 use Rattle.mote_top.proofs.words.option_part.Goals as goal
 
 infusion_is_no_set : Infusion ≡ Classes → ⊥

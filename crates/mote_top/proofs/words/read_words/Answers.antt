@@ -2,7 +2,7 @@ use Rattle.std.proofs.Common.{◌+◌, ◌<◌, ◌≤◌, [], ◌∷◌, length
 use Rattle.std.specs.String.{string_bytes}
 use Rattle.std.proofs.lemmas.List.{length-map}
 use Rattle.jvm_model.specs.Phases.{saturated}
-use Rattle.mote_top.proofs.WordSteps.{word_more, part_more, none_more, all_words, none_at_end, fault_there}
+use Rattle.mote_top.proofs.commands.WordSteps.{word_more, part_more, none_more, all_words, none_at_end, fault_there}
 use Rattle.mote_top.proofs.words.read_words.Goals as goal
 
 pub returns-in-None : goal.returns-in-None

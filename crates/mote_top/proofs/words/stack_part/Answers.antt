@@ -1,7 +1,7 @@
 use Rattle.std.proofs.Common.{List, ◌∷◌, [], ◌++◌, ℕ, sym, subst, refl}
 use Rattle.mote_top.specs.Parts.{HasOptions}
-use Rattle.mote_top.proofs.WordParts.{stack_given, with_stack}
-use Rattle.mote_top.proofs.WordSteps.{no_stack_step}
+use Rattle.mote_top.proofs.commands.WordParts.{stack_given, with_stack}
+use Rattle.mote_top.proofs.commands.WordSteps.{no_stack_step}
 use Rattle.mote_top.proofs.words.stack_part.Goals as goal
 
 pub returns-in_default : goal.returns-in_default

@@ -1,7 +1,7 @@
 use Rattle.std.proofs.Common.{List, ◌∷◌, [], ◌++◌, ℕ, sym, subst, refl, arith}
 use Rattle.mote_top.specs.Parts.{HasOptions}
-use Rattle.mote_top.proofs.WordParts.{ticks_given, with_ticks}
-use Rattle.mote_top.proofs.WordSteps.{no_ticks_step}
+use Rattle.mote_top.proofs.commands.WordParts.{ticks_given, with_ticks}
+use Rattle.mote_top.proofs.commands.WordSteps.{no_ticks_step}
 use Rattle.mote_top.proofs.words.ticks_part.Goals as goal
 
 pub returns-in_default : goal.returns-in_default

@@ -1,4 +1,4 @@
-use Rattle.jvm_model.proofs.LinkedSets.{one_linked}
+use Rattle.jvm_model.proofs.phases.LinkedSets.{one_linked}
 use Rattle.set_laws.proofs.VerdictLaws.{linked_of}
 use Rattle.set_laws.proofs.SetRuns.{image_there, image_is_one}
 use Rattle.set_laws.proofs.laws.sets_are_linked.Goals as goal

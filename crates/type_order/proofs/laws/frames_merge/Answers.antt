@@ -1,4 +1,4 @@
-use Rattle.type_order.proofs.Frames.{merges-are-above, merges-are-least, above-goes-on, above-is-one-way, proper-is-above, merge-is-proper}
+use Rattle.type_order.proofs.merges.Frames.{merges-are-above, merges-are-least, above-goes-on, above-is-one-way, proper-is-above, merge-is-proper}
 use Rattle.type_order.proofs.laws.frames_merge.Goals as goal
 
 pub returns-clause-above : goal.returns-clause-above

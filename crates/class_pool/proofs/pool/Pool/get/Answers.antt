@@ -1,6 +1,6 @@
 use Rattle.std.proofs.Common.{rules, subst}
 use Rattle.class_pool.specs.Pool.{AreSpaced}
-use Rattle.class_pool.proofs.Spacing.{none_tells}
+use Rattle.class_pool.proofs.constant_pool.Spacing.{none_tells}
 use Rattle.class_pool.proofs.pool.Pool.get.Goals as goal
 
 pub returns-clause-entry : goal.returns-clause-entry

@@ -1,6 +1,6 @@
 use Rattle.std.proofs.Common.{nat_eq, ◌&&◌, position, ap, ◌∙◌}
 use Rattle.class_tree.specs.declared.member_index.Key.{Key}
-use Rattle.class_tree.proofs.MemberKeys.{key_position}
+use Rattle.class_tree.proofs.lookups.MemberKeys.{key_position}
 use Rattle.class_tree.proofs.member_index.MemberIndex.position_of.Goals as goal
 
 pub returns : goal.returns

@@ -1,6 +1,6 @@
 use Rattle.std.proofs.Common.{List, ℕ, Some, None, sym, ◌∙◌, ap}
 use Rattle.class_tree.specs.Set.{number_among}
-use Rattle.class_tree.proofs.Numbers.{among_own}
+use Rattle.class_tree.proofs.tables.Numbers.{among_own}
 use Rattle.class_tree.proofs.names.Names.number_of.Goals as goal
 
 pub returns-in-Some-get_index_of-clause-number : goal.returns-in-Some-get_index_of-clause-number

@@ -1,8 +1,8 @@
 use Rattle.std.proofs.Common.{ℕ, Vec, Global, sym, ap, ◌∙◌}
 use Rattle.std.specs.List.{position_or_len}
 use Rattle.std.specs.Str.{bytes_eq}
-use Rattle.class_tree.proofs.Finding.{first_map}
-use Rattle.class_tree.proofs.MemberKeys.{some_first, none_first}
+use Rattle.class_tree.proofs.tables.Finding.{first_map}
+use Rattle.class_tree.proofs.lookups.MemberKeys.{some_first, none_first}
 use Rattle.class_tree.proofs.names.Names.position_of.Goals as goal
 
 pub returns-in-Some : goal.returns-in-Some

@@ -1,7 +1,7 @@
 use Rattle.std.proofs.Common.{ℕ, List, [], ◌∷◌, ◌++◌, map, Vec, Global, ◌∙◌, ap}
 use Rattle.std.specs.List.{list_any}
 use Rattle.std.specs.Str.{bytes_eq}
-use Rattle.class_tree.proofs.NameLists.{pushed}
+use Rattle.class_tree.proofs.tables.NameLists.{pushed}
 use Rattle.class_tree.proofs.names.Names.push.Goals as goal
 
 pub returns : goal.returns

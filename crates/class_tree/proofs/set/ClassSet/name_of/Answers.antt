@@ -1,5 +1,5 @@
 use Rattle.std.proofs.Common.{◌∙◌, arith}
-use Rattle.class_tree.proofs.NamesOf.{name_there}
+use Rattle.class_tree.proofs.tables.NamesOf.{name_there}
 use Rattle.class_tree.proofs.set.ClassSet.name_of.Goals as goal
 
 pub returns : goal.returns

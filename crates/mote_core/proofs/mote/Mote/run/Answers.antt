@@ -3,8 +3,8 @@ use Rattle.image_form.specs.Grammar.{IsImage}
 use Rattle.image_check.specs.Checked.{IsChecked, IsBuilt}
 use Rattle.mote_model.specs.Machine.{method_of, frame_cells}
 use Rattle.mote_core.specs.Acts.{place}
-use Rattle.mote_core.proofs.Acting.{acts-next}
-use Rattle.mote_core.proofs.Going.{going-start, ran-tall, runs-at, there-at, on-at, ends-at}
+use Rattle.mote_core.proofs.dialogues.Acting.{acts-next}
+use Rattle.mote_core.proofs.dialogues.Going.{going-start, ran-tall, runs-at, there-at, on-at, ends-at}
 use Rattle.mote_core.proofs.mote.Mote.run.Goals as goal
 
 pub returns-then-from-need-clause-ran : goal.returns-then-from-need-clause-ran

@@ -1,7 +1,7 @@
 use Rattle.std.proofs.Common.{◌≤◌}
 use Rattle.mote_core.specs.Ready.{limits_of}
 use Rattle.mote_core.specs.Acts.{place}
-use Rattle.mote_core.proofs.Going.{Going, left_at}
+use Rattle.mote_core.proofs.dialogues.Going.{Going, left_at}
 use Rattle.mote_core.proofs.mote.Mote.run.Given as goal
 
 -- the run has come so far, and the cells have room for all of the stack

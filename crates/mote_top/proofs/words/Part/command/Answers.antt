@@ -1,8 +1,8 @@
 use Rattle.std.proofs.Common.{ℕ, ◌+◌, ap, subst}
 use Rattle.mote_top.specs.declared.words.Runs.{Runs}
 use Rattle.mote_top.specs.Parts.{HasOptions, IsPart}
-use Rattle.mote_top.proofs.WordParts.{go_whole}
-use Rattle.mote_top.proofs.WordFaults.{options_no_command, stack_no_command, ticks_no_command}
+use Rattle.mote_top.proofs.commands.WordParts.{go_whole}
+use Rattle.mote_top.proofs.commands.WordFaults.{options_no_command, stack_no_command, ticks_no_command}
 use Rattle.mote_top.proofs.words.Part.command.Goals as goal
 
 pub returns-in-Classes : goal.returns-in-Classes

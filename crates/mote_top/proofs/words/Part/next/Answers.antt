@@ -1,6 +1,6 @@
 use Rattle.std.proofs.Common.{subst}
 use Rattle.mote_top.specs.Parts.{IsPart}
-use Rattle.mote_top.proofs.WordSteps.{run_step, classes_step}
+use Rattle.mote_top.proofs.commands.WordSteps.{run_step, classes_step}
 use Rattle.mote_top.proofs.words.Part.next.Goals as goal
 
 pub returns-in-Run : goal.returns-in-Run
