@@ -1,7 +1,7 @@
 //! Class files that are written and drafted, and records of none.
 
 ghost use Rattle.std.specs.Prelude.{IfOk};
-ghost use Rattle.class_make.specs.Record.{IsRecord};
+ghost use Rattle.class_file.specs.Relation.{IsRecord};
 
 use class_file::{ClassFile, CodeAttr, HandlerRow, read_class};
 use class_make::{ClassDraft, DraftRefusal, write_class};

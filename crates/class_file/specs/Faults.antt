@@ -17,10 +17,7 @@ use Rattle.class_file.specs.Rules.{are_class_flags, names_class, is_same_member}
 use Rattle.class_file.specs.Relation.{FitsU2, FitsAttribute, FitsMember, IsSkippable, IsRegularField, IsRegularMethod, largest, IsClassFile}
 use Rattle.class_file.specs.Refused.{IsRefused}
 use Rattle.class_file.specs.Prefixes.{IsFault}
-
--- the numbers are bytes
-abbrev pub AreBytes : List ℕ → Type 0
-AreBytes bytes = AllByRecursion (λ byte. byte < 256) bytes
+pub use Rattle.byte_read.specs.Bytes.{AreBytes}
 
 -- ---- a file that is cut off
 

@@ -154,3 +154,7 @@ pub record IsLaidOut (bytes : List ℕ) (l : Layout) (file : ClassFile) : Type 0
 -- the bytes are a class file with this record
 abbrev pub IsClassFile : List ℕ → ClassFile → Type 0
 IsClassFile bytes file = (l : Layout) × IsLaidOut bytes l file
+
+-- some bytes are a class file with this record
+abbrev pub IsRecord : ClassFile → Type 0
+IsRecord file = (bytes : List ℕ) × IsClassFile bytes file

@@ -8,7 +8,7 @@ use Rattle.class_file.specs.Layout.{encoding}
 use Rattle.class_file.specs.Relation.{IsClassFile}
 use Rattle.class_file.specs.Reading.{Gives}
 use Rattle.class_make.specs.declared.refusal.DraftRefusal.TheVariants.{BadShape}
-use Rattle.class_make.specs.Record.{IsRecord}
+use Rattle.class_file.specs.Relation.{IsRecord}
 use Rattle.class_make.specs.Written.{layout_of, fits}
 use Rattle.class_make.specs.Draft.{refusal_of, IsInvalid}
 use Rattle.class_make.proofs.Validity.{written_again, record_fits}

@@ -12,7 +12,7 @@ use Rattle.class_file.specs.declared.record.Member.{Member}
 use Rattle.class_file.specs.Rules.{is_same_member}
 use Rattle.class_file.specs.Layout.{MemberAttribute, Coded, Valued, Skipped, MemberLayout, Layout, u2, counted, attribute_bytes, member_bytes, magic, encoding, codes_in, first, head_of, member_of, record_of}
 use Rattle.class_file.specs.Relation.{FitsU2, FitsMember, FitsMemberAttribute, FitsLayout, IsFieldAttribute, IsMethodAttribute, IsRegularField, IsRegularMethod, IsRegular, largest, IsLaidOut, IsClassFile}
-use Rattle.class_make.specs.Record.{IsRecord}
+use Rattle.class_file.specs.Relation.{IsRecord}
 use Rattle.class_make.specs.Entries.{text_index}
 use Rattle.class_make.specs.Written.{member_layout, member_layouts, layout_of, fits_text, fits_slots, fits_code, fits_codes, fits}
 use Rattle.class_make.proofs.Names.{index_small}

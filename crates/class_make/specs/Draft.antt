@@ -9,7 +9,7 @@ use Rattle.class_make.specs.declared.refusal.DraftRefusal.{DraftRefusal}
 use Rattle.class_make.specs.declared.refusal.DraftRefusal.TheVariants.{Full, BadShape, Memory}
 use Rattle.class_file.specs.declared.refusal.ReadRefusal.{ReadRefusal}
 use Rattle.class_file.specs.declared.refusal.ReadRefusal.TheVariants.{Memory as ReadMemory}
-use Rattle.class_make.specs.Record.{IsRecord}
+use Rattle.class_file.specs.Relation.{IsRecord}
 use Rattle.class_make.specs.Entries.{with_entry, with_text, with_class, text_index, class_index}
 
 -- a class of version 52.0 with the flags ACC_PUBLIC and ACC_SUPER (JVMS 4.1), and without members

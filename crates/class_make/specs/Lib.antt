@@ -1,4 +1,3 @@
-pub mod Record
 pub mod Written
 pub mod Entries
 pub mod Draft

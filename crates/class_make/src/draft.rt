@@ -4,7 +4,7 @@ ghost use Rattle.std.specs.Prelude.{◌≡◌, ◌≤◌, [], ◌∷◌, ◌++�
 ghost use Rattle.class_pool.specs.declared.pool.Const.TheVariants.{Utf8};
 ghost use Rattle.class_pool.specs.Pool.{entry_at};
 ghost use Rattle.class_make.specs.declared.refusal.DraftRefusal.TheVariants.{Full, Memory};
-ghost use Rattle.class_make.specs.Record.{IsRecord};
+ghost use Rattle.class_file.specs.Relation.{IsRecord};
 ghost use Rattle.class_make.specs.Entries.{index_of, with_entry, text_index};
 ghost use Rattle.class_make.specs.Draft.{new_class, member_in, with_field, with_method, with_constant, with_field_texts, with_method_texts, IsOver, IsUnplaced, IsInvalid};
 

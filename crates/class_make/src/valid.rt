@@ -3,7 +3,7 @@
 ghost use Rattle.std.specs.Prelude.{◌≡◌, ◌⊎◌, true, IfErr, OnOk};
 ghost use Rattle.class_file.specs.Layout.{encoding};
 ghost use Rattle.class_make.specs.declared.refusal.DraftRefusal.TheVariants.{BadShape, Memory};
-ghost use Rattle.class_make.specs.Record.{IsRecord};
+ghost use Rattle.class_file.specs.Relation.{IsRecord};
 ghost use Rattle.class_make.specs.Written.{layout_of};
 ghost use Rattle.class_make.specs.Draft.{refusal_of, IsInvalid};
 

@@ -5,7 +5,7 @@ ghost use Rattle.std.specs.List.{flat_map};
 ghost use Rattle.class_pool.specs.Pool.{pool_bytes};
 ghost use Rattle.class_file.specs.Layout.{Coded, u2, counted, plain, code_info, attribute_bytes, member_bytes, magic, encoding};
 ghost use Rattle.class_file.specs.Relation.{IsClassFile};
-ghost use Rattle.class_make.specs.Record.{IsRecord};
+ghost use Rattle.class_file.specs.Relation.{IsRecord};
 ghost use Rattle.class_make.specs.Entries.{text_index};
 ghost use Rattle.class_make.specs.Written.{value_attribute, code_attribute, member_layout, layout_of, fits_code, fits_codes, fits_members, fits};
 

@@ -10,10 +10,7 @@ use Rattle.image_form.specs.declared.refusal.FormRefusal.TheVariants.{BadTable}
 use Rattle.image_form.specs.Format.{magic, counted, type_bytes, sig_bytes, method_bytes}
 use Rattle.image_form.specs.Grammar.{EachAfter, Each, IsType, IsSelector, IsMethod, HasSignatures, IsMain, most_types, most_methods}
 use Rattle.image_form.specs.Refused.{IsRefused}
-
--- the numbers are bytes
-abbrev pub AreBytes : List ℕ → Type 0
-AreBytes bytes = AllByRecursion (λ byte. byte < 256) bytes
+pub use Rattle.byte_read.specs.Bytes.{AreBytes}
 
 -- no such part begins with these bytes, whatever follows them
 abbrev pub BeginsNone : {A : Type 0} → (A → List ℕ) → (A → Type 0) → List ℕ → Type 0

@@ -5,6 +5,7 @@ use Rattle.class_code.specs.Code.{Insns}
 use Rattle.class_file.specs.declared.record.ClassFile.{ClassFile}
 use Rattle.class_file.specs.declared.record.CodeAttr.{CodeAttr}
 use Rattle.class_file.specs.Relation.{IsClassFile}
+pub use Rattle.class_file.specs.Relation.{IsRecord}
 use Rattle.class_file.specs.OneMain.{HasOneMainRecord}
 use Rattle.jvm_model.specs.declared.refusal.Refusal.{Refusal}
 use Rattle.jvm_model.specs.declared.refusal.Cause.TheVariants as cause
@@ -28,10 +29,6 @@ abbrev pub AreRead : List (List ℕ) → List ClassFile → Type 0
 AreRead [] [] = Unit {0}
 AreRead (bytes ∷ files) (class ∷ classes) = IsClassFile bytes class × AreRead files classes
 AreRead _ _ = ⊥
-
--- some bytes are a class file with this record
-abbrev pub IsRecord : ClassFile → Type 0
-IsRecord class = (bytes : List ℕ) × IsClassFile bytes class
 
 -- the classes do not stand together and are refused so; or they do, and have no entry and are refused so; or they
 -- have one, and a method has no types and is refused so

@@ -16,15 +16,7 @@ use Rattle.class_code.specs.Code.{Insns, decoded, first_unfit}
 use Rattle.jvm_model.specs.declared.refusal.Cause.{Cause}
 use Rattle.jvm_model.specs.declared.refusal.Cause.TheVariants as cause
 use Rattle.jvm_model.specs.declared.refusal.Refusal.{Refusal}
-
--- a number in the four bytes of its field: the greatest one where it is beyond
-abbrev pub saturated : ℕ → ℕ
-saturated n = if nat_le n 4294967295 then n else 4294967295
-
--- The refusal of the first of these that has one. Each is told its place, which counts from here.
-unfoldable pub first_refusal : {X : Type 0} → (ℕ → X → Option Refusal) → ℕ → List X → Option Refusal
-first_refusal test place [] = None
-first_refusal test place (x ∷ xs) = option_or (test place x) (first_refusal test (suc place) xs)
+pub use Rattle.class_tree.specs.Scan.{first_refusal, saturated}
 
 -- ---- how large the set is
 
