@@ -1,5 +1,5 @@
-//! Calls of the decoder and of the writer of class files by their public names, with ample memory. What is
-//! data stands in `class_rows`. This crate has tests alone, and stands on the crates that it calls.
+//! Calls of the decoder, of the writer of class files and of the verifier of types by their public names, with ample
+//! memory. What is data stands in `class_rows`. This crate has tests alone, and stands on the crates that it calls.
 #![tactic(auto)]
 
 #[cfg(test)]
@@ -16,3 +16,5 @@ mod laws;
 mod linking;
 #[cfg(test)]
 mod sets;
+#[cfg(test)]
+mod types;
