@@ -18,3 +18,5 @@ pub mod FrameCells
 pub mod Views
 -- states that match when their frames change
 pub mod NextFrames
+-- states that match when objects are placed or changed
+pub mod NextObjects
