@@ -6,7 +6,7 @@ use Rattle.class_file.specs.declared.record.ClassFile.{ClassFile}
 use Rattle.body_form.specs.declared.body.Body.{Body}
 use Rattle.jvm_model.specs.Bodies.{AreEach, Coded, IsBody, AreBodies, coded_methods}
 use Rattle.jvm_model.specs.TypesNames.{IsOfSet}
-use Rattle.jvm_model.proofs.BodyNames.{of_set}
+use Rattle.jvm_model.proofs.bodies.BodyNames.{of_set}
 use Rattle.set_laws.proofs.CodedMethods.{StandsIn, methods_stand}
 
 each_of_set : (files : List ClassFile) (coded : List Coded) (bodies : List Body) → AreEach (IsBody files) coded bodies → AllByRecursion (StandsIn files) coded → AllByRecursion (IsOfSet files) bodies

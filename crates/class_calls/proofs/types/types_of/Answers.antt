@@ -6,7 +6,7 @@ use Rattle.class_file.specs.declared.record.ClassFile.{ClassFile}
 use Rattle.class_tree.specs.Tree.{Gathers}
 use Rattle.jvm_model.specs.Bodies.{AreBodies}
 use Rattle.jvm_model.specs.TypesNames.{IsOfSet}
-use Rattle.flow_verify.proofs.Taking.{all_at}
+use Rattle.flow_verify.proofs.families.Taking.{all_at}
 use Rattle.class_calls.proofs.OfSets.{all_of_set, if_some}
 use Rattle.class_calls.proofs.types.types_of.Goals as goal
 
