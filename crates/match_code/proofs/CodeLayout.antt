@@ -10,7 +10,8 @@ use Rattle.body_form.specs.declared.op.Op.{Op}
 use Rattle.body_form.specs.Flow.{Ops}
 use Rattle.jvm_model.specs.TypesRules.{op_at}
 use Rattle.jvm_model.specs.WidthsShapes.{pc_after}
-use Rattle.jvm_model.specs.ImageEmission.{Source, bytes_at, size_at, size_below, fill_bytes, offset_of, code_of}
+use Rattle.jvm_model.specs.ImageExpansion.{Emitted, bytes_of}
+use Rattle.jvm_model.specs.ImageEmission.{Source, expansion_at, bytes_at, size_at, size_below, fill_bytes, offset_of, code_of}
 use Rattle.typed_machine.specs.TypedWorld as typed
 use Rattle.match_code.proofs.ExpansionSizes.{size_is}
 
@@ -248,3 +249,15 @@ module _ (source : Source) where
     -- to a greater offset, where it has bytes
     pub offset_grows : 0 < size_at source (pc, instruction) → (to : ℕ) → pc < to → offset_of source pc < offset_of source to
     offset_grows some to lt = omega (arith, some, offset_above to lt)
+
+    -- it ends within the code
+    pub code_within : offset_of source pc + size_at source (pc, instruction) ≤ length (code_of source)
+    code_within =
+        let parts = code_parts in
+        let here = bytes_at source (offset_of source) (pc, instruction) in
+        omega (arith, ap length parts.code_is, length-append parts.before (here ++ parts.after), length-append here parts.after, parts.size, size_is source (offset_of source) (pc, instruction))
+
+    -- where it is expanded to nothing the next one stands at the same offset
+    pub offset_stays : expansion_at source (offset_of source) (pc, instruction) ≡ [] → (next : ℕ) → pc_after source.body.ops pc ≡ Some next → offset_of source next ≡ offset_of source pc
+    offset_stays none next is =
+        omega (arith, offset_next next is, size_is source (offset_of source) (pc, instruction), ap (λ (l : List Emitted). length (bytes_of l)) none)

@@ -17,12 +17,12 @@ use Rattle.jvm_model.specs.ImageEmission.{offset_of, size_at, code_of}
 use Rattle.jvm_model.specs.ImageExpansion.{Emitted, bytes_of}
 use Rattle.jvm_model.specs.WidthsShapes.{pc_after}
 use Rattle.mote_model.specs.State.{Frame}
-use Rattle.mote_model.specs.SplitMoves.{using}
+use Rattle.mote_model.specs.SplitMoves.{using, goes_on}
 use Rattle.mote_model.specs.SplitState.{State, method_at}
-use Rattle.mote_model.specs.SplitStep.{code_from, move, move_at, move_among, move_of}
+use Rattle.mote_model.specs.SplitStep.{code_from, move, move_at, move_among, move_of, resumes}
 use Rattle.type_safety.specs.Safety as safety
 use Rattle.match_states.specs.Setting.{Setting, IsCompiled, IsCompiledBody, source_for, id_for}
-use Rattle.match_code.specs.Standing.{StandsInExpansion, StandsInFills, WentOver}
+use Rattle.match_code.specs.Standing.{fills_for, StandsInExpansion, StandsInFills, WentOver}
 use Rattle.match_code.proofs.CodeLayout.{offset_first, offset_next}
 use Rattle.match_code.proofs.CodePoints.{list_over, size_over, after_point, code_at_point, after_fill, code_at_fill}
 use Rattle.match_code.proofs.ExpansionSizes.{size_is}
@@ -88,6 +88,23 @@ module _ (setting : Setting) (body : Body) (frame : Frame) (pc : ℕ) (instructi
       let found = code_there compiled rest stands in
       move_there setting.image state frame others insn rows found.0 is found.1 frames
 
+  -- another frame of the method at the same place stands there too
+  pub stands_same : (rest : List Emitted) → StandsInExpansion setting body frame pc instruction first insn rows rest → (other : Frame) → WentOver frame other 0 → StandsInExpansion setting body other pc instruction first insn rows rest
+  stands_same rest stands other over =
+      record {
+        of_set = stands.of_set;
+        method = over.method ∙ stands.method;
+        at = stands.at;
+        emitted = stands.emitted;
+        place = omega (arith, over.pc, stands.place);
+      }
+
+  -- a caller goes on behind the call at which it stands
+  pub resumes_here : IsCompiled setting → (rest : List Emitted) → StandsInExpansion setting body frame pc instruction first insn rows rest → IsInsn insn rows
+      → (state : State) (others : List Frame) → resumes setting.image state frame others ≡ goes_on state frame others (frame.pc + length (insn_bytes insn rows))
+  resumes_here compiled rest stands is state others =
+      ap (λ found. using found (λ x. goes_on state frame others (frame.pc + x.1))) (read_there compiled rest stands is)
+
   -- a frame that went on stands at the next instruction of the expansion
   pub stands_next : (next : MInsn) (next_rows : List SwitchRow) (rest : List Emitted) → StandsInExpansion setting body frame pc instruction first insn rows ((next, next_rows) ∷ rest)
       → (other : Frame) → WentOver frame other (length (insn_bytes insn rows)) → StandsInExpansion setting body other pc instruction (first ++ (insn, rows) ∷ []) next next_rows rest
@@ -147,3 +164,12 @@ module _ (setting : Setting) (body : Body) (frame : Frame) (first : List Emitted
       let source = source_for setting body in
       let size = ap (λ (l : List Emitted). length (bytes_of l)) stands.emitted in
       omega (arith, over.pc, stands.place, size, size_over first insn rows, offset_first source)
+
+-- a frame of a method that begins stands at the first of what extends its parameters
+pub entry_stands : (setting : Setting) (body : Body) (frame : Frame) → Contains setting.world.bodies body → frame.method ≡ id_for setting (safety.method_of body) → frame.pc ≡ 0
+    → (insn : MInsn) (rows : List SwitchRow) (rest : List Emitted) → fills_for setting body ≡ (insn, rows) ∷ rest → StandsInFills setting body frame [] insn rows rest
+entry_stands setting body frame of_set method begins insn rows rest emitted = record { of_set = of_set; method = method; emitted = emitted; place = begins }
+
+-- where nothing extends them it stands at the body's first instruction
+pub entry_plain : (setting : Setting) (body : Body) → fills_for setting body ≡ [] → offset_of (source_for setting body) 0 ≡ 0
+entry_plain setting body none = offset_first (source_for setting body) ∙ ap (λ (l : List Emitted). length (bytes_of l)) none

@@ -10,3 +10,5 @@ pub mod CodeMoves
 pub mod MatchedCode
 -- offsets are in the order of pcs
 pub mod CodeOrder
+-- the row that handles a throw is that of the body
+pub mod CodeHandlers
