@@ -69,7 +69,7 @@ module _ (setting : Setting) (body : Body) (frame : Frame) (pc : ℕ) (instructi
       let rise = body_rises setting compiled body stands.of_set in (
         after_point source rise pc instruction stands.at first insn rows rest stands.emitted,
         code_of_frame setting compiled body stands.of_set frame stands.method
-            ∙ ap (λ n. drop n (code_of source)) stands.place
+            ∙ ap (λ n. drop n (code_of source)) stands.pc_is
             ∙ code_at_point source rise pc instruction stands.at first insn rows rest stands.emitted,
       )
 
@@ -96,7 +96,7 @@ module _ (setting : Setting) (body : Body) (frame : Frame) (pc : ℕ) (instructi
         method = over.method ∙ stands.method;
         at = stands.at;
         emitted = stands.emitted;
-        place = omega (arith, over.pc, stands.place);
+        pc_is = omega (arith, over.pc, stands.pc_is);
       }
 
   -- a caller goes on behind the call at which it stands
@@ -114,7 +114,7 @@ module _ (setting : Setting) (body : Body) (frame : Frame) (pc : ℕ) (instructi
         method = over.method ∙ stands.method;
         at = stands.at;
         emitted = stands.emitted ∙ list_over first (insn, rows) ((next, next_rows) ∷ rest);
-        place = omega (arith, over.pc, stands.place, size_over first insn rows);
+        pc_is = omega (arith, over.pc, stands.pc_is, size_over first insn rows);
       }
 
   -- behind the last one it is where the next pc is
@@ -124,7 +124,7 @@ module _ (setting : Setting) (body : Body) (frame : Frame) (pc : ℕ) (instructi
       let source = source_for setting body in
       let size : size_at source (pc, instruction) ≡ length (bytes_of (first ++ (insn, rows) ∷ [])) =
       sym (size_is source (offset_of source) (pc, instruction)) ∙ ap (λ (l : List Emitted). length (bytes_of l)) stands.emitted in
-      omega (arith, over.pc, stands.place, size, size_over first insn rows, offset_next source (body_rises setting compiled body stands.of_set) pc instruction stands.at to next)
+      omega (arith, over.pc, stands.pc_is, size, size_over first insn rows, offset_next source (body_rises setting compiled body stands.of_set) pc instruction stands.at to next)
 
 -- ---- at entry
 
@@ -135,7 +135,7 @@ module _ (setting : Setting) (body : Body) (frame : Frame) (first : List Emitted
       let source = source_for setting body in (
         after_fill source first insn rows rest stands.emitted,
         code_of_frame setting compiled body stands.of_set frame stands.method
-            ∙ ap (λ n. drop n (code_of source)) stands.place
+            ∙ ap (λ n. drop n (code_of source)) stands.pc_is
             ∙ code_at_fill source first insn rows rest stands.emitted,
       )
 
@@ -155,7 +155,7 @@ module _ (setting : Setting) (body : Body) (frame : Frame) (first : List Emitted
         of_set = stands.of_set;
         method = over.method ∙ stands.method;
         emitted = stands.emitted ∙ list_over first (insn, rows) ((next, next_rows) ∷ rest);
-        place = omega (arith, over.pc, stands.place, size_over first insn rows);
+        pc_is = omega (arith, over.pc, stands.pc_is, size_over first insn rows);
       }
 
   -- behind the last one the body's first instruction begins
@@ -163,12 +163,12 @@ module _ (setting : Setting) (body : Body) (frame : Frame) (first : List Emitted
   fills_past stands other over =
       let source = source_for setting body in
       let size = ap (λ (l : List Emitted). length (bytes_of l)) stands.emitted in
-      omega (arith, over.pc, stands.place, size, size_over first insn rows, offset_first source)
+      omega (arith, over.pc, stands.pc_is, size, size_over first insn rows, offset_first source)
 
 -- a frame of a method that begins stands at the first of what extends its parameters
 pub entry_stands : (setting : Setting) (body : Body) (frame : Frame) → Contains setting.world.bodies body → frame.method ≡ id_for setting (safety.method_of body) → frame.pc ≡ 0
     → (insn : MInsn) (rows : List SwitchRow) (rest : List Emitted) → fills_for setting body ≡ (insn, rows) ∷ rest → StandsInFills setting body frame [] insn rows rest
-entry_stands setting body frame of_set method begins insn rows rest emitted = record { of_set = of_set; method = method; emitted = emitted; place = begins }
+entry_stands setting body frame of_set method begins insn rows rest emitted = record { of_set = of_set; method = method; emitted = emitted; pc_is = begins }
 
 -- where nothing extends them it stands at the body's first instruction
 pub entry_plain : (setting : Setting) (body : Body) → fills_for setting body ≡ [] → offset_of (source_for setting body) 0 ≡ 0

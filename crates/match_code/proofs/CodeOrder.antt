@@ -72,7 +72,7 @@ module _ (setting : Setting) (compiled : IsCompiled setting) (body : Body) (fram
   ends_within =
       let source = source_for setting body in
       let size = ap (λ (l : List Emitted). length (bytes_of l)) stands.emitted in
-      omega (arith, stands.place, size, size_is source (offset_of source) (pc, instruction), ap length (bytes_cut first insn rows rest), length-append (bytes_of first) (insn_bytes insn rows ++ bytes_of rest), length-append (insn_bytes insn rows) (bytes_of rest))
+      omega (arith, stands.pc_is, size, size_is source (offset_of source) (pc, instruction), ap length (bytes_cut first insn rows rest), length-append (bytes_of first) (insn_bytes insn rows ++ bytes_of rest), length-append (insn_bytes insn rows) (bytes_of rest))
 
   -- a jump leads forward where that of the pc does
   pub same_order : (to : ℕ) → nat_lt frame.pc (offset_of (source_for setting body) to) ≡ nat_lt pc to
@@ -81,7 +81,7 @@ module _ (setting : Setting) (compiled : IsCompiled setting) (body : Body) (fram
       elim (cases_lt pc to) [
         | inl less ↦ less_is pc to frame.pc (offset_of source to) less
             (omega (arith, some_bytes insn rows is, ends_within, offset_above source (body_rises setting compiled body stands.of_set) pc instruction stands.at to less))
-        | inr from ↦ not_less_is pc to frame.pc (offset_of source to) from (omega (arith, stands.place, offset_keeps source to pc from))
+        | inr from ↦ not_less_is pc to frame.pc (offset_of source to) from (omega (arith, stands.pc_is, offset_keeps source to pc from))
       ]
 
   pub same_from : (from : ℕ) → nat_le (offset_of (source_for setting body) from) frame.pc ≡ nat_le from pc

@@ -1,6 +1,6 @@
 -- What code follows at a point within an expansion, and among what extends parameters.
 use Rattle.std.proofs.Common.{◌≡◌, ℕ, ◌+◌, List, [], ◌∷◌, ◌++◌, length, drop, Some, sym, ap, ◌∙◌, append_assoc, length-append, arith}
-use Rattle.std.specs.List.{flat_map}
+use Rattle.std.specs.List.{AllByRecursion, flat_map}
 use Rattle.std.proofs.lemmas.Grind.{flat_map-append}
 use Rattle.std.proofs.lemmas.List.{drop_at}
 use Rattle.std.proofs.lemmas.List.Concat.{flat_map-cons}
@@ -31,6 +31,11 @@ list_over first emitted rest = sym (append_assoc first (emitted ∷ []) rest)
 pub size_over : (first : List Emitted) (insn : MInsn) (rows : List SwitchRow) → length (bytes_of (first ++ (insn, rows) ∷ [])) ≡ length (bytes_of first) + length (insn_bytes insn rows)
 size_over first insn rows =
     omega (arith, ap length (bytes_cut first insn rows []), length-append (bytes_of first) (insn_bytes insn rows ++ []), length-append (insn_bytes insn rows) [])
+
+-- what holds of all of them holds of the one between
+pub holds_here : (P : Emitted → Type 0) (first : List Emitted) (emitted : Emitted) (rest : List Emitted) → AllByRecursion P (first ++ emitted ∷ rest) → P emitted
+holds_here P [] emitted rest all = all.0
+holds_here P (other ∷ first) emitted rest all = holds_here P first emitted rest all.1
 
 -- ---- points of bytes
 

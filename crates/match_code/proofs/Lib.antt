@@ -12,3 +12,5 @@ pub mod MatchedCode
 pub mod CodeOrder
 -- the row that handles a throw is that of the body
 pub mod CodeHandlers
+-- moves of which the account sees nothing
+pub mod QuietMoves

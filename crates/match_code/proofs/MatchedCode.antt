@@ -65,7 +65,7 @@ module _ (setting : Setting) (frame : Frame) (other : SplitFrame) where
         method = youngest.method ∙ ap (id_for setting) (sym found.method);
         at = at;
         emitted = emitted;
-        place = omega (arith, youngest.pc);
+        pc_is = omega (arith, youngest.pc);
       }
 
 -- ---- frames that wait
@@ -104,6 +104,6 @@ module _ (setting : Setting) (frame : Frame) (other : SplitFrame) where
           method = waiting.method ∙ ap (id_for setting) (sym found.method);
           at = waiting.at;
           emitted = call.emitted;
-          place = waiting.pc;
+          pc_is = waiting.pc;
         },
       )

@@ -28,14 +28,14 @@ pub record StandsInExpansion (setting : Setting) (body : Body) (frame : Frame) (
   pub method : frame.method ≡ id_for setting (method_of body)
   pub at : op_at body.ops pc ≡ Some instruction
   pub emitted : emitted_at setting body pc instruction ≡ first ++ (insn, rows) ∷ rest
-  pub place : frame.pc ≡ offset_of (source_for setting body) pc + length (bytes_of first)
+  pub pc_is : frame.pc ≡ offset_of (source_for setting body) pc + length (bytes_of first)
 
 -- the same at entry, among what extends parameters
 pub record StandsInFills (setting : Setting) (body : Body) (frame : Frame) (first : List Emitted) (insn : MInsn) (rows : List SwitchRow) (rest : List Emitted) : Type 0 where
   pub of_set : Contains setting.world.bodies body
   pub method : frame.method ≡ id_for setting (method_of body)
   pub emitted : fills_for setting body ≡ first ++ (insn, rows) ∷ rest
-  pub place : frame.pc ≡ length (bytes_of first)
+  pub pc_is : frame.pc ≡ length (bytes_of first)
 
 -- a frame that went on over the instruction at which another one stands
 pub record WentOver (frame other : Frame) (size : ℕ) : Type 0 where
