@@ -22,9 +22,9 @@ use Rattle.mote_model.specs.SplitState.{State, method_at}
 use Rattle.mote_model.specs.SplitStep.{code_from, move, move_at, move_among, move_of, resumes}
 use Rattle.type_safety.specs.Safety as safety
 use Rattle.match_states.specs.Setting.{Setting, IsCompiled, IsCompiledBody, source_for, id_for}
-use Rattle.match_code.specs.Standing.{fills_for, StandsInExpansion, StandsInFills, WentOver}
+use Rattle.match_code.specs.Standing.{IsEmittedInsn, AreInsns, fills_for, StandsInExpansion, StandsInFills, WentOver}
 use Rattle.match_code.proofs.CodeLayout.{offset_first, offset_next}
-use Rattle.match_code.proofs.CodePoints.{list_over, size_over, after_point, code_at_point, after_fill, code_at_fill}
+use Rattle.match_code.proofs.CodePoints.{holds_here, list_over, size_over, after_point, code_at_point, after_fill, code_at_fill}
 use Rattle.match_code.proofs.ExpansionSizes.{size_is}
 
 -- ---- the instruction that is read
@@ -61,6 +61,11 @@ module _ (setting : Setting) (compiled : IsCompiled setting) (body : Body) (of_s
 -- ---- within an expansion
 
 module _ (setting : Setting) (body : Body) (frame : Frame) (pc : ℕ) (instruction : Op) (first : List Emitted) (insn : MInsn) (rows : List SwitchRow) where
+  -- it is one, where all of the body are
+  pub insn_here : AreInsns setting body → (rest : List Emitted) → StandsInExpansion setting body frame pc instruction first insn rows rest → IsInsn insn rows
+  insn_here all rest stands =
+      holds_here IsEmittedInsn first (insn, rows) rest (subst (λ (l : List Emitted). AllByRecursion IsEmittedInsn l) stands.emitted (all.expansions pc instruction stands.at))
+
   -- what follows in the code is the instruction and more
   pub code_there : IsCompiled setting → (rest : List Emitted) → StandsInExpansion setting body frame pc instruction first insn rows rest
       → (after : List ℕ) × (code_from setting.image frame ≡ insn_bytes insn rows ++ after)
@@ -129,6 +134,11 @@ module _ (setting : Setting) (body : Body) (frame : Frame) (pc : ℕ) (instructi
 -- ---- at entry
 
 module _ (setting : Setting) (body : Body) (frame : Frame) (first : List Emitted) (insn : MInsn) (rows : List SwitchRow) where
+  -- it is one, where all of the body are
+  pub insn_at_entry : AreInsns setting body → (rest : List Emitted) → StandsInFills setting body frame first insn rows rest → IsInsn insn rows
+  insn_at_entry all rest stands =
+      holds_here IsEmittedInsn first (insn, rows) rest (subst (λ (l : List Emitted). AllByRecursion IsEmittedInsn l) stands.emitted all.fills)
+
   pub code_at_entry : IsCompiled setting → (rest : List Emitted) → StandsInFills setting body frame first insn rows rest
       → (after : List ℕ) × (code_from setting.image frame ≡ insn_bytes insn rows ++ after)
   code_at_entry compiled rest stands =

@@ -1,8 +1,9 @@
 -- Where a frame of the split machine stands within the code of a compiled body.
 use Rattle.std.specs.Prelude.{◌≡◌, ℕ, ◌+◌, List, ◌∷◌, ◌++◌, length, Some}
-use Rattle.std.specs.List.{Contains, flat_map}
+use Rattle.std.specs.List.{AllByRecursion, Contains, flat_map}
 use Rattle.image_instr.specs.declared.insn.MInsn.{MInsn}
 use Rattle.image_instr.specs.declared.insn.SwitchRow.{SwitchRow}
+use Rattle.image_instr.specs.Insn.{IsInsn}
 use Rattle.body_form.specs.declared.body.Body.{Body}
 use Rattle.body_form.specs.declared.op.Op.{Op}
 use Rattle.jvm_model.specs.ImageEmission.{expansion_at, offset_of}
@@ -41,3 +42,13 @@ pub record StandsInFills (setting : Setting) (body : Body) (frame : Frame) (firs
 pub record WentOver (frame other : Frame) (size : ℕ) : Type 0 where
   pub method : other.method ≡ frame.method
   pub pc : other.pc ≡ frame.pc + size
+
+-- ---- the instructions of the code
+
+abbrev pub IsEmittedInsn : Emitted → Type 0
+IsEmittedInsn emitted = IsInsn emitted.0 emitted.1
+
+-- the machine instructions of a body's code are such, with operands within their limits
+pub record AreInsns (setting : Setting) (body : Body) : Type 0 where
+  pub expansions : (pc : ℕ) (instruction : Op) → op_at body.ops pc ≡ Some instruction → AllByRecursion IsEmittedInsn (emitted_at setting body pc instruction)
+  pub fills : AllByRecursion IsEmittedInsn (fills_for setting body)
