@@ -14,3 +14,5 @@ pub mod CodeOrder
 pub mod CodeHandlers
 -- moves of which the account sees nothing
 pub mod QuietMoves
+-- the instructions that change cells alone
+pub mod QuietInsns
