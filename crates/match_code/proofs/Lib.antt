@@ -16,3 +16,5 @@ pub mod CodeHandlers
 pub mod QuietMoves
 -- the instructions that change cells alone
 pub mod QuietInsns
+-- several of them, one after another
+pub mod QuietRuns

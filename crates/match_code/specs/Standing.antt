@@ -31,6 +31,14 @@ pub record StandsInExpansion (setting : Setting) (body : Body) (frame : Frame) (
   pub emitted : emitted_at setting body pc instruction ≡ first ++ (insn, rows) ∷ rest
   pub pc_is : frame.pc ≡ offset_of (source_for setting body) pc + length (bytes_of first)
 
+-- the same where it stands behind the first ones and before the rest, which may be none
+pub record StandsBetween (setting : Setting) (body : Body) (frame : Frame) (pc : ℕ) (instruction : Op) (first rest : List Emitted) : Type 0 where
+  pub of_set : Contains setting.world.bodies body
+  pub method : frame.method ≡ id_for setting (method_of body)
+  pub at : op_at body.ops pc ≡ Some instruction
+  pub emitted : emitted_at setting body pc instruction ≡ first ++ rest
+  pub pc_is : frame.pc ≡ offset_of (source_for setting body) pc + length (bytes_of first)
+
 -- the same at entry, among what extends parameters
 pub record StandsInFills (setting : Setting) (body : Body) (frame : Frame) (first : List Emitted) (insn : MInsn) (rows : List SwitchRow) (rest : List Emitted) : Type 0 where
   pub of_set : Contains setting.world.bodies body
