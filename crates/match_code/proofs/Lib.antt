@@ -18,3 +18,5 @@ pub mod QuietMoves
 pub mod QuietInsns
 -- several of them, one after another
 pub mod QuietRuns
+-- what extends parameters at entry
+pub mod QuietEntry

@@ -106,7 +106,7 @@ module _ (image : Image) (state : State) (frame : Frame) (others : List Frame) w
       let enough : nat_lt (length upper) (length (upper ++ cell ∷ cells)) ≡ true = grind (arith, nat_tests, length-append upper (cell ∷ cells)) in
       let past : suc (length upper) ≡ length upper + 1 = omega arith in
       let lower : drop (suc (length upper)) (upper ++ cell ∷ cells) ≡ cells =
-          ap (λ (n : ℕ). drop n (upper ++ cell ∷ cells)) past ∙ drop-append-add upper (cell ∷ cells) 1 in
+      ap (λ (n : ℕ). drop n (upper ++ cell ∷ cells)) past ∙ drop-append-add upper (cell ∷ cells) 1 in
       let next = frame.pc + length (insn_bytes (insns.Drop (length upper)) []) in
       record {
         keeps = record { method = refl; refs = refl };

@@ -66,7 +66,7 @@ module _ (setting : Setting) (body : Body) (pc : ℕ) (instruction : Op) where
   between_past compiled frame first stands to next =
       let source = source_for setting body in
       let size : size_at source (pc, instruction) ≡ length (bytes_of first) =
-          sym (size_is source (offset_of source) (pc, instruction)) ∙ ap (λ (l : List Emitted). length (bytes_of l)) (stands.emitted ∙ append-nil first) in
+      sym (size_is source (offset_of source) (pc, instruction)) ∙ ap (λ (l : List Emitted). length (bytes_of l)) (stands.emitted ∙ append-nil first) in
       omega (arith, stands.pc_is, size, offset_next source (body_rises setting compiled body stands.of_set) pc instruction stands.at to next)
 
   -- where a run of quiet instructions leads, and that it is quiet

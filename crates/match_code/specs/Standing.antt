@@ -46,6 +46,13 @@ pub record StandsInFills (setting : Setting) (body : Body) (frame : Frame) (firs
   pub emitted : fills_for setting body ≡ first ++ (insn, rows) ∷ rest
   pub pc_is : frame.pc ≡ length (bytes_of first)
 
+-- and there behind the first ones and before the rest
+pub record StandsAmongFills (setting : Setting) (body : Body) (frame : Frame) (first rest : List Emitted) : Type 0 where
+  pub of_set : Contains setting.world.bodies body
+  pub method : frame.method ≡ id_for setting (method_of body)
+  pub emitted : fills_for setting body ≡ first ++ rest
+  pub pc_is : frame.pc ≡ length (bytes_of first)
+
 -- a frame that went on over the instruction at which another one stands
 pub record WentOver (frame other : Frame) (size : ℕ) : Type 0 where
   pub method : other.method ≡ frame.method
