@@ -16,7 +16,7 @@ use class_tree::ClassSet;
 use std::alloc::Global;
 
 /// The class of this name.
-#[tactic(auto, using(jvm_model::proofs::NamedClasses::named_class))]
+#[tactic(auto, using(jvm_model::proofs::bodies::NamedClasses::named_class))]
 pub(crate) fn class_named(set: &ClassSet, name: &[u8]) -> Result<u16, Fault>
     ensures tells { Tells result (class_of_name set.now name.now) }
     ensures class { IfOk result (IsClass set.now) }

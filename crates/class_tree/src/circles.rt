@@ -11,7 +11,7 @@ use class_file::ClassFile;
 use library::FIRST_OWN;
 
 /// Whether the table says that one number leads to another.
-#[tactic(auto, using(crate::proofs::Rows::row_is))]
+#[tactic(auto, using(crate::proofs::tables::Rows::row_is))]
 pub(crate) fn leads(above: &[Vec<bool>], from: usize, to: usize) -> bool
     ensures { result ≡ at (map (λ v. v.items) above.now) from to }
 {

@@ -23,7 +23,7 @@ fn step(row: &mut Vec<bool>, pivot: &[bool], number: usize)
 }
 
 /// The row of a number.
-#[tactic(auto, using(crate::proofs::Rows::row_is))]
+#[tactic(auto, using(crate::proofs::tables::Rows::row_is))]
 fn row_of(rows: &[Vec<bool>], number: usize) -> &[bool]
     requires { number < length rows.now }
     ensures { result.now ≡ get_or (map (λ v. v.items) rows.now) number [] }
@@ -32,7 +32,7 @@ fn row_of(rows: &[Vec<bool>], number: usize) -> &[bool]
 }
 
 /// Lets a row of the table lead where the pivot leads, if it leads to the pivot's number.
-#[tactic(auto, using(crate::proofs::Rows::row_is, crate::proofs::Rows::row_set, crate::proofs::Rows::row_other))]
+#[tactic(auto, using(crate::proofs::tables::Rows::row_is, crate::proofs::tables::Rows::row_set, crate::proofs::tables::Rows::row_other))]
 fn step_at(rows: &mut Vec<Vec<bool>>, from: usize, pivot: &[bool], number: usize)
     requires from { from < length rows.old.items }
     requires same_length { length (get_or (map (λ v. v.items) rows.old.items) from []) ≡ length pivot.now }

@@ -29,7 +29,7 @@ fn is_native_called(native: Native, name: &[u8], descriptor: &[u8]) -> bool
 }
 
 /// The position of the method of this name and this descriptor of a class of the library.
-#[tactic(auto, using(crate::proofs::Finding::position_map))]
+#[tactic(auto, using(crate::proofs::tables::Finding::position_map))]
 pub(crate) fn native_position(class: u16, name: &[u8], descriptor: &[u8]) -> Option<usize>
     ensures { result ≡ position (is_called_so name.now descriptor.now) (map in_library (natives_of class)) }
 {

@@ -40,7 +40,7 @@ impl Names {
     }
 
     /// The name is there.
-    #[tactic(auto, using(crate::proofs::Finding::list_any_map))]
+    #[tactic(auto, using(crate::proofs::tables::Finding::list_any_map))]
     fn has(&self, name: &[u8]) -> bool
         ensures { result ≡ list_any (bytes_eq name.now) self.now }
     {
@@ -68,7 +68,7 @@ impl Names {
     }
 
     /// The position of a name, or how many names there are.
-    #[tactic(auto, using(crate::proofs::Finding::position_map))]
+    #[tactic(auto, using(crate::proofs::tables::Finding::position_map))]
     pub(crate) fn position_of(&self, name: &[u8]) -> usize
         ensures { result ≡ position_or_len (bytes_eq name.now) self.now }
     {

@@ -24,7 +24,7 @@ fn is_base_below(set: &ClassSet, a: TypeBase, b: TypeBase) -> bool
 /// A type is another one, or is below it: a class below its superclass and its superinterfaces, every array
 /// below `java/lang/Object`, and an array of references below that of references above its components
 /// (JVMS 4.10.1.2, without the interfaces of arrays).
-#[tactic(auto, using(crate::proofs::Subtyping::below_sound, crate::proofs::Subtyping::below_complete))]
+#[tactic(auto, using(crate::proofs::ancestors::Subtyping::below_sound, crate::proofs::ancestors::Subtyping::below_complete))]
 pub fn is_subtype(set: &ClassSet, a: TypeRef, b: TypeRef) -> bool
     requires first { IsType set.now a }
     requires second { IsType set.now b }

@@ -82,7 +82,7 @@ fn version_at(bytes: &[u8]) -> Result<(u16, &[u8]), FormRefusal>
 }
 
 /// The image with these bytes after the first four.
-#[tactic(auto, unfolding(crate::specs::Reading::versioned, crate::specs::Reading::version_at), using(crate::proofs::AtOnce::versioned_fails, crate::proofs::AtOnce::versioned_goes_on))]
+#[tactic(auto, unfolding(crate::specs::Reading::versioned, crate::specs::Reading::version_at), using(crate::proofs::faults::AtOnce::versioned_fails, crate::proofs::faults::AtOnce::versioned_goes_on))]
 fn versioned(alloc: Global, bytes: &[u8]) -> Result<Image, FormRefusal>
     ensures value { Gives result (versioned bytes.now) }
     ensures version { (why : Refusal) → version_at bytes.now ≡ Err why → result ≡ Err why }

@@ -133,7 +133,7 @@ pub(crate) fn pop_number(cells: &mut Cells) -> i32
 
 /// The two cells of a local, the low one first.
 #[inline(always)]
-#[tactic(auto, using(crate::proofs::Tops::local_there))]
+#[tactic(auto, using(crate::proofs::turns::Tops::local_there))]
 fn local_pair(cells: &[u16], local: u16) -> (u16, u16)
     requires { local + 1 < length cells.now }
     ensures { local_cells cells.now local ≡ Some (result.1, result.0) }
