@@ -1,5 +1,5 @@
 -- Folds over what some items give.
-use Rattle.std.proofs.Common.{◌≡◌, ℕ, zero, suc, ◌+◌, ◌<◌, Bool, true, false, cond, List, [], ◌∷◌, ◌++◌, length, take, get_or, filter, map, refl, sym, ap, ◌∙◌, arith, Option, Some, None}
+use Rattle.std.proofs.Common.{◌≡◌, ℕ, ◌+◌, ◌<◌, Bool, true, false, cond, List, [], ◌∷◌, ◌++◌, length, take, get_or, filter, map, refl, sym, ap, ◌∙◌, Option, Some, None}
 use Rattle.std.specs.List.{fold, filter_map, flat_map}
 use Rattle.std.specs.Option.{option_to_list}
 use Rattle.std.proofs.lemmas.List.{take_more, map-append, append-nil, append_assoc}
@@ -50,16 +50,16 @@ module _ {Y B : Type 0} (f : B → Y → B) (start : B) (p : Y → Bool) where
     pub kept_more : p (view x) ≡ true → f (fold f start (filter p (map view (take i xs)))) (view x) ≡ fold f start (filter p (map view (take (i + 1) xs)))
     kept_more e =
         sym (
-          ap (λ ys. fold f start (filter p ys)) mapped ∙ next (map view (take i xs)) (view x ∷ [])
-          ∙ one_kept (fold f start (filter p (map view (take i xs)))) (view x) e
+        ap (λ ys. fold f start (filter p ys)) mapped ∙ next (map view (take i xs)) (view x ∷ [])
+        ∙ one_kept (fold f start (filter p (map view (take i xs)))) (view x) e
         )
 
     -- the next item does not
     pub left_more : p (view x) ≡ false → fold f start (filter p (map view (take i xs))) ≡ fold f start (filter p (map view (take (i + 1) xs)))
     left_more e =
         sym (
-          ap (λ ys. fold f start (filter p ys)) mapped ∙ next (map view (take i xs)) (view x ∷ [])
-          ∙ one_left (fold f start (filter p (map view (take i xs)))) (view x) e
+        ap (λ ys. fold f start (filter p ys)) mapped ∙ next (map view (take i xs)) (view x ∷ [])
+        ∙ one_left (fold f start (filter p (map view (take i xs)))) (view x) e
         )
 
   -- what the next item gives comes behind
@@ -67,9 +67,9 @@ module _ {Y B : Type 0} (f : B → Y → B) (start : B) (p : Y → Bool) where
       → fold f (fold f start (filter p (flat_map g (take i xs)))) (filter p (g x)) ≡ fold f start (filter p (flat_map g (take (i + 1) xs)))
   given_more g xs i x lt is =
       sym (
-        ap (λ ys. fold f start (filter p (flat_map g ys))) (taken xs i x lt is)
-        ∙ ap (λ ys. fold f start (filter p ys)) (flat_map-append g (take i xs) (x ∷ []) ∙ ap (λ zs. flat_map g (take i xs) ++ zs) (append-nil (g x)))
-        ∙ next (flat_map g (take i xs)) (g x)
+      ap (λ ys. fold f start (filter p (flat_map g ys))) (taken xs i x lt is)
+      ∙ ap (λ ys. fold f start (filter p ys)) (flat_map-append g (take i xs) (x ∷ []) ∙ ap (λ zs. flat_map g (take i xs) ++ zs) (append-nil (g x)))
+      ∙ next (flat_map g (take i xs)) (g x)
       )
 
 -- what the next item gives, where it gives something, comes behind
@@ -83,7 +83,7 @@ module _ {X Y : Type 0} (h : X → Option Y) where
   found_more before xs i d lt =
       append_assoc before (filter_map h (take i xs)) (option_to_list (h (get_or xs i d)))
       ∙ ap (λ ys. before ++ ys) (
-        ap (λ ys. filter_map h (take i xs) ++ ys) (sym (one_found (get_or xs i d) (h (get_or xs i d)) refl))
-        ∙ sym (filter_map-append h (take i xs) (get_or xs i d ∷ []))
-        ∙ ap (filter_map h) (sym (take_more xs i d lt))
+      ap (λ ys. filter_map h (take i xs) ++ ys) (sym (one_found (get_or xs i d) (h (get_or xs i d)) refl))
+      ∙ sym (filter_map-append h (take i xs) (get_or xs i d ∷ []))
+      ∙ ap (filter_map h) (sym (take_more xs i d lt))
       )

@@ -1,3 +1,7 @@
 mod Folds
 mod Numbered
 mod LastWrites
+mod KeptNumbers
+mod OwnClasses
+mod ShownTypes
+mod ObjectFields

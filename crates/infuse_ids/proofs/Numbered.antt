@@ -47,8 +47,8 @@ pub range_more : {B : Type 0} (f : B → ℕ → B) (start : B) (first many : �
 range_more f start first many =
     let one : many + 1 ≡ suc many = omega arith in
     sym (
-      ap (λ n. fold f start (range_with_len first n)) one ∙ ap (fold f start) (range_next first many)
-      ∙ fold-append f start (range_with_len first many) ((first + many) ∷ [])
+    ap (λ n. fold f start (range_with_len first n)) one ∙ ap (fold f start) (range_next first many)
+    ∙ fold-append f start (range_with_len first many) ((first + many) ∷ [])
     )
 
 -- all items are taken

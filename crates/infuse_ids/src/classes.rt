@@ -1,7 +1,7 @@
 //! The classes of the files in the order of their ids.
 
-ghost use Rattle.std.specs.Prelude.{◌≡◌, [], ◌∷◌, ◌++◌, ◌||◌, nat_lt, map, option_copied, OnOk, IfOk, IfErr};
-ghost use Rattle.std.specs.List.{filter_map};
+ghost use Rattle.std.specs.Prelude.{◌≡◌, ◌≤◌, [], ◌∷◌, ◌++◌, ◌||◌, nat_lt, map, option_copied, OnOk, IfOk, IfErr};
+ghost use Rattle.std.specs.List.{AllByRecursion, filter_map};
 ghost use Rattle.std.specs.Option.{option_to_list};
 ghost use Rattle.library.specs.Classes.{first_own};
 ghost use Rattle.class_tree.specs.DirectSupers.{superclass_of as superclass_of_class, superinterfaces_of};
@@ -130,6 +130,7 @@ fn number_class(
 /// The classes of the files, each behind what stands above it.
 pub(crate) fn class_order(alloc: Global, set: &ClassSet) -> Result<IndexSet<u16>, IdsRefusal>
     ensures order { IfOk result (λ order. order.keys ≡ class_order_of set.now) }
+    ensures own { IfOk result (λ order. AllByRecursion (λ class. 32 ≤ class) order.keys) }
     ensures memory { IfErr result (λ why. why ≡ Memory) }
 {
     let mut order = IndexSet::new(alloc);

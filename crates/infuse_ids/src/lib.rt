@@ -3,10 +3,14 @@
 #![tactic(auto)]
 
 mod classes;
+mod laws;
 mod pushed;
 mod refusal;
 mod selectors;
 mod texts;
+mod types;
+mod values;
 mod writes;
 
+pub use laws::fields_come_from_superclasses;
 pub use refusal::IdsRefusal;

@@ -1,6 +1,5 @@
-use Rattle.std.proofs.Common.{ℕ, ◌-◌, ◌<◌, List, [], ◌∷◌, ◌++◌, length, take, sym, ap, ◌∙◌, arith}
+use Rattle.std.proofs.Common.{ℕ, ◌-◌, List, [], ◌∷◌, ◌++◌, sym, ap, ◌∙◌, arith}
 use Rattle.std.specs.List.{fold}
-use Rattle.std.proofs.Math.Seq.{take-length}
 use Rattle.jvm_model.specs.ImageNumbering.{number_class}
 use Rattle.infuse_ids.proofs.Numbered.{at_end, passed, behind, all_of}
 use Rattle.infuse_ids.proofs.classes.+number_class.Goals as goal
@@ -20,7 +19,7 @@ returns-in-Ok-add_class-clause-numbered t c =
     let items = c.as_slice-upper-items.result.now in
     c.in-Ok-add_class.ensures.added
     ∙ ap (λ (order : List ℕ). order ++ c.args.class ∷ []) (
-      c.loop-upper.invariant
-      ∙ ap step (all_of items c.loop-upper.upper-index c.loop-upper-test.false ∙ c.as_slice-upper-items.ensures.value ∙ c.in_ok-uppers.ensures)
+    c.loop-upper.invariant
+    ∙ ap step (all_of items c.loop-upper.upper-index c.loop-upper-test.false ∙ c.as_slice-upper-items.ensures.value ∙ c.in_ok-uppers.ensures)
     )
     ∙ behind files c.args.order.now.keys c.args.class c.args.levels (omega (arith, c.if-levels-eq0.false)) (sym c.is_passed.ensures ∙ c.if-is_passed.false)

@@ -1,5 +1,5 @@
 -- The classes of the files so far have their numbers.
-use Rattle.std.proofs.Common.{◌≡◌, ◌+◌, [], length}
+use Rattle.std.proofs.Common.{◌≡◌, []}
 use Rattle.std.specs.List.{fold, range_with_len}
 use Rattle.library.specs.Classes.{first_own}
 use Rattle.class_tree.specs.DirectSupers.{class_count}

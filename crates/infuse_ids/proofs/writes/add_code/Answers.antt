@@ -1,4 +1,4 @@
-use Rattle.std.proofs.Common.{List, Option, Some, None, sym, ap, ◌∙◌}
+use Rattle.std.proofs.Common.{List, None, sym, ap, ◌∙◌}
 use Rattle.std.specs.Option.{option_or}
 use Rattle.class_pool.specs.Members.{MemberName}
 use Rattle.jvm_model.specs.Initialisers.{Pushed}

@@ -1,11 +1,10 @@
-use Rattle.std.proofs.Common.{◌+◌, List, [], ◌∷◌, Option, Some, None, option_map, drop, sym, ap, ◌∙◌}
+use Rattle.std.proofs.Common.{◌+◌, ◌∷◌, Option, None, option_map, drop, sym, ap, ◌∙◌}
 use Rattle.std.proofs.lemmas.List.{drop_all}
 use Rattle.class_code.specs.Code.{Insns}
 use Rattle.jvm_model.specs.Initialisers.{Pushed as Held}
 use Rattle.jvm_model.specs.InitialStatics.{writes_from}
 use Rattle.infuse_ids.specs.declared.pushed.Pushed.{Pushed}
-use Rattle.infuse_ids.specs.declared.writes.LastWrites.{LastWrites}
-use Rattle.infuse_ids.specs.Writes.{last_set, pushed_of}
+use Rattle.infuse_ids.specs.Writes.{pushed_of}
 use Rattle.infuse_ids.proofs.LastWrites.{comes, second_step, first_step, return_step, end_step, at_hand}
 use Rattle.infuse_ids.proofs.writes.add_writes.Goals.{in-Some+in-Ok, in-None+else-is_plain_return}
 use Rattle.infuse_ids.proofs.writes.add_writes.Goals as goal

@@ -1,4 +1,4 @@
-use Rattle.std.proofs.Common.{◌+◌, List, Option, None, option_map, drop, sym, ap, ◌∙◌}
+use Rattle.std.proofs.Common.{◌+◌, List, option_map, drop, sym, ap, ◌∙◌}
 use Rattle.std.specs.Map.{lookup}
 use Rattle.std.specs.Option.{option_or}
 use Rattle.std.proofs.lemmas.List.{drop_all}
@@ -6,7 +6,7 @@ use Rattle.class_file.specs.declared.record.Member.{Member}
 use Rattle.jvm_model.specs.InitialStatics.{writes_of, last_write}
 use Rattle.infuse_ids.specs.declared.pushed.Pushed.{Pushed}
 use Rattle.infuse_ids.specs.declared.writes.Called.{Called}
-use Rattle.infuse_ids.specs.Writes.{is_key, last_set, pushed_of}
+use Rattle.infuse_ids.specs.Writes.{is_key, pushed_of}
 use Rattle.infuse_ids.proofs.LastWrites.{comes, or_none, at_hand, method_step, methods_end}
 use Rattle.infuse_ids.proofs.writes.last_writes.Goals as goal
 

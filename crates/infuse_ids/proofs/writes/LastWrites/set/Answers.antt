@@ -1,6 +1,5 @@
-use Rattle.std.proofs.Common.{Bool, cond, Option, Some, option_map, sym, ap, ◌∙◌}
+use Rattle.std.proofs.Common.{cond, Some, option_map, ap, ◌∙◌}
 use Rattle.std.specs.Map.{lookup}
-use Rattle.infuse_ids.specs.declared.pushed.Pushed.{Pushed}
 use Rattle.infuse_ids.specs.declared.writes.Called.{Called}
 use Rattle.infuse_ids.specs.Writes.{is_key, last_set, pushed_of}
 use Rattle.infuse_ids.proofs.LastWrites.{view_either}
