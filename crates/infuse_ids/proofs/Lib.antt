@@ -5,3 +5,4 @@ mod KeptNumbers
 mod OwnClasses
 mod ShownTypes
 mod ObjectFields
+mod DescriptorTexts

@@ -1,8 +1,11 @@
-//! The numbers of what the image of a set names: types, selectors, methods, the places of fields, and what statics hold
-//! before main starts.
+//! The numbers of what the image of a set names: the classes and the selectors in their order, the types that bodies
+//! show, what statics hold before main starts, and the number of the selector of a call. The answer of calls is
+//! `selector_number`; that an object has the fields of its superclass's objects first is a law. This crate stands on
+//! `jvm_model`, `class_tree`, `class_code`, `body_form` and the kit's `indexmap`.
 #![tactic(auto)]
 
 mod classes;
+mod descriptor;
 mod laws;
 mod pushed;
 mod refusal;
@@ -12,5 +15,6 @@ mod types;
 mod values;
 mod writes;
 
+pub use descriptor::selector_number;
 pub use laws::fields_come_from_superclasses;
 pub use refusal::IdsRefusal;
