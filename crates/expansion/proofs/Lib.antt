@@ -3,3 +3,4 @@ pub mod Windows
 pub mod Arguments
 pub mod Alike
 pub mod Rows
+pub mod Limits

@@ -80,12 +80,12 @@ bare_some count i = maybe (if nat_eq count 0 then false else true) (i count)
 bare_remove : (shapes : List Kind) → Bare (remove shapes)
 bare_remove shapes =
     both (some_refs (refs_in shapes) (λ count. insn.RPop count)) (some_refs (cells_in shapes) (λ count. insn.Pop count))
-      (bare_some (refs_in shapes) (λ count. insn.RPop count)) (bare_some (cells_in shapes) (λ count. insn.Pop count))
+    (bare_some (refs_in shapes) (λ count. insn.RPop count)) (bare_some (cells_in shapes) (λ count. insn.Pop count))
 
 bare_copy : (top below : List Kind) → Bare (copy top below)
 bare_copy top below =
     both (some_refs (refs_in top) (λ count. insn.RDupX count (refs_in below))) (some_refs (cells_in top) (λ count. insn.DupX count (cells_in below)))
-      (bare_some (refs_in top) (λ count. insn.RDupX count (refs_in below))) (bare_some (cells_in top) (λ count. insn.DupX count (cells_in below)))
+    (bare_some (refs_in top) (λ count. insn.RDupX count (refs_in below))) (bare_some (cells_in top) (λ count. insn.DupX count (cells_in below)))
 
 bare_exchange : (top below : Kind) → Bare (exchange top below)
 bare_exchange kind.Ref kind.Ref = refl

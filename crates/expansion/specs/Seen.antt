@@ -4,12 +4,14 @@ use Rattle.class_pool.specs.declared.types.TypeBase.TheVariants as base
 use Rattle.insn_form.specs.declared.ValueKind.TheVariants as value_kind
 use Rattle.image_instr.specs.declared.insn.MInsn.{MInsn}
 use Rattle.image_instr.specs.declared.insn.SwitchRow as image_row
+use Rattle.image_instr.specs.declared.insn.Width.TheVariants as width
+use Rattle.image_instr.specs.Insn.{KeepsLimits, AreRowsOf}
 use Rattle.body_form.specs.declared.op.MethodUse.{MethodUse}
 use Rattle.body_form.specs.declared.op.Op.{Op}
 use Rattle.body_form.specs.declared.op.Op.TheVariants as op
 use Rattle.body_form.specs.declared.types.VType.TheVariants as known
 use Rattle.jvm_model.specs.WidthsShapes.{Point}
-use Rattle.jvm_model.specs.ImageExpansion.{Emitted, Locals, Ids, top_of, is_boolean_array, moved_row}
+use Rattle.jvm_model.specs.ImageExpansion.{Emitted, Locals, Ids, top_of, is_boolean_array, moved_row, switch_insn}
 use Rattle.expansion.specs.declared.around.Around.{Around}
 use Rattle.expansion.specs.declared.around.Numbers.{Numbers}
 
@@ -72,3 +74,14 @@ rows_at offset instruction = []
 
 abbrev pub with_rows : List image_row.SwitchRow → List MInsn → List Emitted
 with_rows rows list = map (λ (insn : MInsn). (insn, rows)) list
+
+-- ---- limits
+
+-- the operands keep to the limits of the machine instruction, and the rows are those that it counts
+abbrev pub Keeps : Emitted → Type 0
+Keeps emitted = KeepsLimits emitted.0 × AreRowsOf emitted.0 emitted.1
+
+-- the keys of a switch rise, and those of a table follow one another; a table has one
+abbrev pub KeepsRows : Op → Type 0
+KeepsRows (op.Switch form default rows) = Keeps (switch_insn form width.One 0 rows, map (moved_row (λ pc. 0)) rows)
+KeepsRows instruction = Unit {0}

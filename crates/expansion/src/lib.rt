@@ -16,6 +16,8 @@ mod parts;
 mod push;
 mod shapes;
 mod stack;
+#[cfg(test)]
+mod tests;
 mod values;
 
 pub use around::{Around, Numbers};
