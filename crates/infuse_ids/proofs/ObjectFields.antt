@@ -3,7 +3,7 @@ use Rattle.std.proofs.Common.{◌≡◌, ℕ, zero, suc, ◌<◌, List, [], ◌+
 use Rattle.std.specs.Option.{option_map_or}
 use Rattle.class_file.specs.declared.record.ClassFile.{ClassFile}
 use Rattle.class_tree.specs.DirectSupers.{class_count, superclass_of}
-use Rattle.class_tree.proofs.Superclasses.{IsRanked, ranked, falls_to}
+use Rattle.class_tree.proofs.ancestors.Superclasses.{IsRanked, ranked, falls_to}
 use Rattle.jvm_model.specs.ImageNumbering.{Field, object_fields, fields_of_object}
 use Rattle.infuse_ids.specs.Layouts.{own_fields, FieldsBySuperclass}
 
