@@ -1,5 +1,5 @@
 -- An expansion hangs on no more than what its instruction names and looks at.
-use Rattle.std.proofs.Common.{◌≡◌, ℕ, ◌+◌, Bool, true, false, ◌&&◌, if◌then◌else◌, List, [], ◌∷◌, ◌++◌, length, map, take, drop, get_or, reverse, Option, Some, None, unwrap_or, refl, sym, ap, ◌∙◌, subst}
+use Rattle.std.proofs.Common.{◌≡◌, ℕ, ◌+◌, Bool, true, false, ◌&&◌, if◌then◌else◌, List, [], ◌∷◌, ◌++◌, length, take, reverse, Option, unwrap_or, refl, sym, ap, ◌∙◌}
 use Rattle.std.specs.Option.{option_map_or}
 use Rattle.std.proofs.lemmas.List.{length-reverse}
 use Rattle.class_pool.specs.declared.descriptor.Kind.{Kind as DeclaredKind}
@@ -20,8 +20,8 @@ use Rattle.jvm_model.specs.WidthsShapes.{Point, kind_of_width}
 use Rattle.jvm_model.specs.ImageExpansion.{Emitted, Locals, Ids, alone, alone_where, is_two, top_of, second_of, width_of, kind_in, operation_of, condition_of, test_of, element_of, extend, read_as, write_as, restack, unary_of, switch_insn, cut_arguments, call, call_itself, is_boolean_array, read_element, is_small_element, cut_to_one, constant, return_of, expanded}
 use Rattle.expansion.specs.declared.around.Around.{Around}
 use Rattle.expansion.specs.declared.around.Numbers.{Numbers}
-use Rattle.expansion.specs.Expanding.{insns, locals_of, ids_of, point_of, expansion_of}
-use Rattle.expansion.specs.Seen.{looked_at, reads_element, IsAround, AreCalled, AreNumbers}
+use Rattle.expansion.specs.Expanding.{insns, ids_of, point_of, expansion_of}
+use Rattle.expansion.specs.Seen.{IsAround, AreNumbers}
 use Rattle.expansion.proofs.Arguments.{no_kinds}
 
 both_alike : {X Y Z : Type 0} (f : X → Y → Z) {a b : X} {c d : Y} → a ≡ b → c ≡ d → f a c ≡ f b d

@@ -1,5 +1,5 @@
 -- Instructions that are appended one list after the other.
-use Rattle.std.proofs.Common.{◌≡◌, List, [], ◌++◌, map, sym, ap, ◌∙◌, append_assoc}
+use Rattle.std.proofs.Common.{◌≡◌, List, [], ◌++◌, sym, ap, ◌∙◌, append_assoc}
 use Rattle.std.proofs.lemmas.List.{append-nil, map-append}
 use Rattle.image_instr.specs.declared.insn.MInsn.{MInsn}
 use Rattle.jvm_model.specs.ImageExpansion.{Emitted}

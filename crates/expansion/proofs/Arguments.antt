@@ -1,5 +1,5 @@
 -- The arguments of a call, cut one after the other.
-use Rattle.std.proofs.Common.{◌≡◌, ℕ, ◌+◌, ◌≤◌, ◌<◌, ◌-◌, Bool, ◌&&◌, List, [], ◌∷◌, ◌++◌, length, map, min, drop, get_or, reverse, refl, sym, ap, ◌∙◌, append_assoc, add-one, arith, inl, inr, ◌⊎◌}
+use Rattle.std.proofs.Common.{◌≡◌, ℕ, ◌+◌, ◌≤◌, ◌<◌, ◌-◌, Bool, ◌&&◌, List, [], ◌∷◌, ◌++◌, length, min, drop, get_or, reverse, refl, sym, ap, ◌∙◌, append_assoc, add-one, arith, inl, inr, ◌⊎◌}
 use Rattle.std.proofs.Math.Seq.{drop-cons}
 use Rattle.std.proofs.lemmas.List.{map-append, drop_all, length-reverse, get_or-reverse, append-nil}
 use Rattle.std.proofs.lemmas.Bool.{cases_lt}

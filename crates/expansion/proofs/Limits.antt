@@ -1,7 +1,6 @@
 -- Machine instructions keep to their limits, and have the rows that they count.
-use Rattle.std.proofs.Common.{◌≡◌, ℕ, ◌+◌, Bool, true, false, ◌&&◌, if◌then◌else◌, List, [], ◌∷◌, ◌++◌, length, map, take, drop, reverse, Option, Some, None, refl, sym, ap, ◌∙◌}
+use Rattle.std.proofs.Common.{◌≡◌, ℕ, ◌+◌, Bool, true, false, ◌&&◌, if◌then◌else◌, List, [], ◌∷◌, ◌++◌, length, map, take, drop, reverse, Option, Some, None, refl}
 use Rattle.std.specs.Option.{option_map_or}
-use Rattle.std.proofs.lemmas.List.{map-append}
 use Rattle.cell_num.specs.declared.conversions.Conv.{Conv}
 use Rattle.cell_num.specs.declared.conversions.Conv.TheVariants as conv
 use Rattle.class_pool.specs.declared.descriptor.Kind.{Kind as DeclaredKind}
@@ -28,16 +27,15 @@ use Rattle.jvm_model.specs.ImageExpansion.{Emitted, Locals, Ids, alone, alone_wh
 use Rattle.body_form.specs.declared.types.VType.TheVariants as known
 use Rattle.std.specs.Prelude.{get_or, nat_eq}
 use Rattle.class_pool.specs.declared.types.TypeBase.TheVariants as base
-use Rattle.std.proofs.Common.{◌≤◌, ◌<ℤ◌, ◌+ℤ◌, ℤ, arith, zero, suc, pos, negsuc}
+use Rattle.std.proofs.Common.{◌≤◌, ◌+ℤ◌, ℤ, arith, zero, suc, pos, negsuc}
 use Rattle.std.specs.List.{AllByRecursion}
 use Rattle.std.proofs.lemmas.List.{length-take, length-map}
 use Rattle.image_instr.specs.Effect.{refs_of}
-use Rattle.image_instr.specs.Insn.{KeepsLimits, AreRowsOf, KeysRise, KeysFollow}
+use Rattle.image_instr.specs.Insn.{KeysRise, KeysFollow}
 use Rattle.insn_form.specs.declared.SwitchForm.{SwitchForm}
 use Rattle.insn_form.specs.declared.SwitchForm.TheVariants as switch
 use Rattle.insn_form.specs.declared.SwitchRow.{SwitchRow}
-use Rattle.image_instr.specs.declared.insn.Width.TheVariants as width
-use Rattle.jvm_model.specs.ImageExpansion.{moved_row, low_key, switch_insn, constant, int_constant, narrow_constant, wide_constant, is_between, load}
+use Rattle.jvm_model.specs.ImageExpansion.{moved_row, low_key, switch_insn, constant, narrow_constant, wide_constant, is_between, load}
 use Rattle.body_form.specs.declared.op.Literal.TheVariants as literal
 use Rattle.body_form.specs.declared.op.Literal.{Literal}
 use Rattle.cell_num.specs.Cells.{sign_extended, low_cell}
@@ -122,14 +120,14 @@ fine_some (suc n) i keeps = elim (nat_eq (suc n) 0) as (λ none. All (alone_wher
 fine_remove : (shapes : List Kind) → length shapes ≤ 2 → All (remove shapes)
 fine_remove shapes few =
     both (some_refs (refs_in shapes) (λ count. insn.RPop count)) (some_refs (cells_in shapes) (λ count. insn.Pop count))
-      (fine_some (refs_in shapes) (λ count. insn.RPop count) (λ some. ((some, omega (arith, few_refs shapes few)), refl)))
-      (fine_some (cells_in shapes) (λ count. insn.Pop count) (λ some. ((some, few_cells shapes few), refl)))
+    (fine_some (refs_in shapes) (λ count. insn.RPop count) (λ some. ((some, omega (arith, few_refs shapes few)), refl)))
+    (fine_some (cells_in shapes) (λ count. insn.Pop count) (λ some. ((some, few_cells shapes few), refl)))
 
 fine_copy : (top below : List Kind) → length top ≤ 2 → length below ≤ 2 → All (copy top below)
 fine_copy top below few few_below =
     both (some_refs (refs_in top) (λ count. insn.RDupX count (refs_in below))) (some_refs (cells_in top) (λ count. insn.DupX count (cells_in below)))
-      (fine_some (refs_in top) (λ count. insn.RDupX count (refs_in below)) (λ some. ((some, few_refs top few, few_refs below few_below), refl)))
-      (fine_some (cells_in top) (λ count. insn.DupX count (cells_in below)) (λ some. ((some, few_cells top few, few_cells below few_below), refl)))
+    (fine_some (refs_in top) (λ count. insn.RDupX count (refs_in below)) (λ some. ((some, few_refs top few, few_refs below few_below), refl)))
+    (fine_some (cells_in top) (λ count. insn.DupX count (cells_in below)) (λ some. ((some, few_cells top few, few_cells below few_below), refl)))
 
 fine_exchange : (top below : Kind) → All (exchange top below)
 fine_exchange kind.Ref kind.Ref = ((tt, refl), tt)
@@ -164,8 +162,8 @@ fine_restack form.Swap shapes = fine_exchange (top_of shapes) (second_of shapes)
 fine_wide : (number : ℤ) → All (alone (wide_constant number))
 fine_wide number =
     elim (is_between (negsuc 127) (pos 127) number) as (λ small. All (alone (if small then insn.Small2 number else (if is_between (negsuc 32767) (pos 32767) number then insn.Mid2 number else insn.Const2 number)))) [
-      true ↦ ((tt, refl), tt)
-    | false ↦ elim (is_between (negsuc 32767) (pos 32767) number) as (λ middle. All (alone (if middle then insn.Mid2 number else insn.Const2 number))) [ true ↦ ((tt, refl), tt) | false ↦ ((tt, refl), tt) ]
+      | true ↦ ((tt, refl), tt)
+      | false ↦ elim (is_between (negsuc 32767) (pos 32767) number) as (λ middle. All (alone (if middle then insn.Mid2 number else insn.Const2 number))) [ true ↦ ((tt, refl), tt) | false ↦ ((tt, refl), tt) ]
     ]
 
 fine_one_cell : (number : ℤ) → All (alone (narrow_constant number))

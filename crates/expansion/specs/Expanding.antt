@@ -1,17 +1,15 @@
 -- What `expand` appends, and on what of its surroundings an expansion hangs.
-use Rattle.std.specs.Prelude.{◌≡◌, ℕ, ◌<◌, ◌≤◌, ◌^◌, Bool, true, false, if◌then◌else◌, List, [], ◌∷◌, ◌++◌, map, take, length, get_or, Option}
+use Rattle.std.specs.Prelude.{◌<◌, ◌≤◌, ◌^◌, if◌then◌else◌, List, [], ◌∷◌, ◌++◌, map, length, Option}
 use Rattle.class_pool.specs.declared.descriptor.Kind.{Kind as DeclaredKind}
 use Rattle.class_pool.specs.declared.types.TypeBase.TheVariants as base
 use Rattle.insn_form.specs.declared.ElementKind.{ElementKind}
-use Rattle.insn_form.specs.declared.ValueKind.TheVariants as value_kind
 use Rattle.image_instr.specs.declared.insn.MInsn.{MInsn}
 use Rattle.image_instr.specs.declared.insn.MInsn.TheVariants as insns_of
-use Rattle.body_form.specs.declared.op.MethodUse.{MethodUse}
 use Rattle.body_form.specs.declared.op.Op.{Op}
 use Rattle.body_form.specs.declared.op.Op.TheVariants as op
 use Rattle.body_form.specs.declared.types.VType.TheVariants as known
 use Rattle.jvm_model.specs.WidthsShapes.{Point}
-use Rattle.jvm_model.specs.ImageExpansion.{Emitted, Locals, Ids, alone, top_of, second_of, width_of, element_of, read_element, is_small_element, cut_to_one, is_boolean_array, expanded}
+use Rattle.jvm_model.specs.ImageExpansion.{Emitted, Locals, Ids, alone, top_of, second_of, width_of, element_of, read_element, is_small_element, cut_to_one, expanded}
 use Rattle.expansion.specs.declared.around.Around.{Around}
 use Rattle.expansion.specs.declared.around.Numbers.{Numbers}
 

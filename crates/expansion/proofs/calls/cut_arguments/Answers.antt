@@ -1,4 +1,4 @@
-use Rattle.std.proofs.Common.{◌≡◌, ◌++◌, ◌<◌, ◌≤◌, min, length, get_or, sym, ap, ◌∙◌, arith}
+use Rattle.std.proofs.Common.{◌<◌, ◌≤◌, min, length, sym, ◌∙◌, arith}
 use Rattle.image_instr.specs.declared.insn.Kind.TheVariants as kind
 use Rattle.expansion.proofs.Arguments.{cut_step, cut_end}
 use Rattle.expansion.proofs.calls.cut_arguments.Goals as goal
