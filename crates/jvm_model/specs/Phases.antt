@@ -16,7 +16,8 @@ use Rattle.class_code.specs.Code.{Insns, decoded, first_unfit}
 use Rattle.jvm_model.specs.declared.refusal.Cause.{Cause}
 use Rattle.jvm_model.specs.declared.refusal.Cause.TheVariants as cause
 use Rattle.jvm_model.specs.declared.refusal.Refusal.{Refusal}
-pub use Rattle.class_tree.specs.Scan.{first_refusal, saturated}
+unfoldable pub use Rattle.class_tree.specs.Scan.{first_refusal}
+pub use Rattle.class_tree.specs.Scan.{saturated}
 
 -- ---- how large the set is
 
