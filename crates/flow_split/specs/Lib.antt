@@ -1,0 +1,6 @@
+pub mod Moves
+pub mod MovesLaws
+pub mod Rooms
+pub mod Around
+pub mod Peaks
+pub mod Splits
