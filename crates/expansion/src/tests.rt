@@ -84,12 +84,17 @@ fn moves_references_and_cells_apart(rt: HostRuntime) -> Result<(), Fail> {
 }
 
 #[test]
-fn narrows_and_extends_bytes(rt: HostRuntime) -> Result<(), Fail> {
+fn narrows_bytes(rt: HostRuntime) -> Result<(), Fail> {
     let to_byte = Op::Unary(UnaryOp::Convert(Conv::Byte));
-    let converted = expansion(rt.alloc(), &to_byte, NUMBERS_ALONE, false)?;
-    assert!(rt; converted.as_slice() == BYTE_OF_TWO);
+    let found = expansion(rt.alloc(), &to_byte, NUMBERS_ALONE, false)?;
+    assert!(rt; found.as_slice() == BYTE_OF_TWO);
+    Ok(())
+}
+
+#[test]
+fn extends_booleans_by_zero(rt: HostRuntime) -> Result<(), Fail> {
     let load = Op::ArrayLoad(ElementKind::Byte);
-    let read = expansion(rt.alloc(), &load, NUMBERS_ALONE, true)?;
-    assert!(rt; read.as_slice() == BOOLEAN_READ);
+    let found = expansion(rt.alloc(), &load, NUMBERS_ALONE, true)?;
+    assert!(rt; found.as_slice() == BOOLEAN_READ);
     Ok(())
 }
