@@ -1,0 +1,10 @@
+-- operands of wide bodies by their values
+pub mod WideOperands
+-- states that match behind an instruction
+pub mod NextStates
+-- matches of one machine instruction
+pub mod NextMoves
+-- whole numbers that are taken off the operands
+pub mod TakenNumbers
+-- jumps, and branches on whole numbers
+pub mod NumberBranches
