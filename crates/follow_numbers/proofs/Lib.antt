@@ -8,3 +8,5 @@ pub mod NextMoves
 pub mod TakenNumbers
 -- jumps, and branches on whole numbers
 pub mod NumberBranches
+-- numbers that become others
+pub mod UnaryNumbers

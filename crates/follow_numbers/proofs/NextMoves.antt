@@ -61,7 +61,7 @@ module _ {setting : Setting} {state : State} {other : split.State} {instruction 
           let past =
           goes_past setting (body_at here) here.split here.frame.pc instruction [] insn rows code.compiled stands_alone next.0 (sym (same_after (body_at here).ops here.frame.pc) ∙ next.1) last_there
           (record { method = has.method; pc = refl }) in
-          goes_to here code no_need next.0 values last_there (typed ∙ ap (λ to. goes_on state here.frame here.frames to values) next.1)
+          goes_to here code no_need next.0 values (typed ∙ ap (λ to. goes_on state here.frame here.frames to values) next.1) last_there
           (record { method = has.method; ref_locals = has.ref_locals; cell_locals = has.cell_locals; refs = has.refs; cells = has.cells }) past
           other (Rests other) (alone_move ∙ moves)
 
@@ -72,7 +72,7 @@ module _ {setting : Setting} {state : State} {other : split.State} {instruction 
           let offset = offset_of (source_for setting (body_at here)) target in
           let order : nat_lt last.pc offset ≡ nat_lt here.frame.pc target =
           ap (λ (pc : ℕ). nat_lt pc offset) stays ∙ same_order setting code.compiled (body_at here) here.split here.frame.pc instruction [] insn rows [] stands_alone is_alone target in
-          goes_to here code (if nat_lt here.frame.pc target then no_need else tick_need) target values (split_moves.at_pc last offset) typed
+          goes_to here code (if nat_lt here.frame.pc target then no_need else tick_need) target values typed (split_moves.at_pc last offset)
           (record { method = has.method; ref_locals = has.ref_locals; cell_locals = has.cell_locals; refs = has.refs; cells = has.cells }) refl
           other (Rests other) (alone_move ∙ moves ∙ ap (λ (b : Bool). Does (if b then no_need else tick_need) [] (split.with_frames other (split_moves.at_pc last offset ∷ here.others))) order)
 

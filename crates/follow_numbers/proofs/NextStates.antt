@@ -66,9 +66,7 @@ module _ {setting : Setting} {state : State} {other : split.State} {instruction 
     pub is_unstuck : MoveFits setting.world setting.tables (move setting.world state)
     is_unstuck = code.safe setting.world setting.tables code.compiled.typed state here.match.fits
 
-    module _ (need : Need) (to : ℕ) (values : List Value) (last : SplitFrame)
-        (typed : move setting.world state ≡ Does need [] (with_frames state (at_pc here.frame to values ∷ here.frames)))
-        (carries : HasOperands here.split last values) (pc_is : last.pc ≡ offset_of (source_for setting body_at) to) where
+    module _ (need : Need) (to : ℕ) (values : List Value) (typed : move setting.world state ≡ Does need [] (with_frames state (at_pc here.frame to values ∷ here.frames))) where
       pub next_fits : StateFits setting.world setting.tables (with_frames state (at_pc here.frame to values ∷ here.frames))
       next_fits = subst (MoveFits setting.world setting.tables) typed is_unstuck
 
@@ -79,35 +77,36 @@ module _ {setting : Setting} {state : State} {other : split.State} {instruction 
           frame_shapes setting.world state.objects fits.body setting body_at (code.wide body_at found_at.of_set) to fits.types known
           (code.known body_at found_at.of_set to fits.types known) values fits.has.operands
 
-      next_youngest : YoungestMatches setting (at_pc here.frame to values) last
-      next_youngest =
-          let youngest = here.youngest in
-          let locals = youngest.locals in
-          let shapes = next_shapes in
-          let kept : LocalsMatch setting body_at here.frame last.refs.locals last.cells.locals =
-          subst (λ (refs : List Reference). LocalsMatch setting body_at here.frame refs last.cells.locals) (sym carries.ref_locals)
-          (subst (LocalsMatch setting body_at here.frame here.split.refs.locals) (sym carries.cell_locals) locals) in
-          record {
-            body = youngest.body;
-            found = youngest.found;
-            method = carries.method ∙ youngest.method;
-            pc = pc_is;
-            locals = record { refs_are = kept.refs_are; slotted = kept.slotted; count = kept.count; numbers = kept.numbers };
-            operands = record { shaped = shapes.shaped; refs_are = carries.refs ∙ sym shapes.refs; cells_are = carries.cells ∙ sym shapes.cells };
-          }
+      module _ (last : SplitFrame) (carries : HasOperands here.split last values) (pc_is : last.pc ≡ offset_of (source_for setting body_at) to) where
+        next_youngest : YoungestMatches setting (at_pc here.frame to values) last
+        next_youngest =
+            let youngest = here.youngest in
+            let locals = youngest.locals in
+            let shapes = next_shapes in
+            let kept : LocalsMatch setting body_at here.frame last.refs.locals last.cells.locals =
+            subst (λ (refs : List Reference). LocalsMatch setting body_at here.frame refs last.cells.locals) (sym carries.ref_locals)
+            (subst (LocalsMatch setting body_at here.frame here.split.refs.locals) (sym carries.cell_locals) locals) in
+            record {
+              body = youngest.body;
+              found = youngest.found;
+              method = carries.method ∙ youngest.method;
+              pc = pc_is;
+              locals = record { refs_are = kept.refs_are; slotted = kept.slotted; count = kept.count; numbers = kept.numbers };
+              operands = record { shaped = shapes.shaped; refs_are = carries.refs ∙ sym shapes.refs; cells_are = carries.cells ∙ sym shapes.cells };
+            }
 
-      pub next_match : StatesMatch setting (with_frames state (at_pc here.frame to values ∷ here.frames)) (split.with_frames other (last ∷ here.others))
-      next_match = states_with_frames setting state other (at_pc here.frame to values ∷ here.frames) (last ∷ here.others) here.match next_fits (next_youngest, here.waiting)
+        pub next_match : StatesMatch setting (with_frames state (at_pc here.frame to values ∷ here.frames)) (split.with_frames other (last ∷ here.others))
+        next_match = states_with_frames setting state other (at_pc here.frame to values ∷ here.frames) (last ∷ here.others) here.match next_fits (next_youngest, here.waiting)
 
-      -- both machines make the same move, the split one after some that are quiet
-      pub goes_to : (from : split.State) → Quietly (split_step.machine setting.image) other from → split_step.move setting.image from ≡ Does need [] (split.with_frames other (last ∷ here.others))
-          → Matches (machine setting.world) (split_step.machine setting.image) (StatesMatch setting) (EndingsMatch setting) state other
-      goes_to from quiet moves =
-          let next = with_frames state (at_pc here.frame to values ∷ here.frames) in
-          let after = split.with_frames other (last ∷ here.others) in
-          let comes : ComesTo (split_step.machine setting.image) (StatesMatch setting) next after = record { last = after; quiet = Rests after; related = next_match } in
-          let SameMoves : TypedMove → SplitMove → Type 0 = Alike (ComesTo (split_step.machine setting.image) (StatesMatch setting)) (EndingsMatch setting) in
-          IsLoud from quiet (subst (λ m. SameMoves m (split_step.move setting.image from)) (sym typed) (subst (SameMoves (Does need [] next)) (sym moves) (BothDo need [] next after comes)))
+        -- both machines make the same move, the split one after some that are quiet
+        pub goes_to : (from : split.State) → Quietly (split_step.machine setting.image) other from → split_step.move setting.image from ≡ Does need [] (split.with_frames other (last ∷ here.others))
+            → Matches (machine setting.world) (split_step.machine setting.image) (StatesMatch setting) (EndingsMatch setting) state other
+        goes_to from quiet moves =
+            let next = with_frames state (at_pc here.frame to values ∷ here.frames) in
+            let after = split.with_frames other (last ∷ here.others) in
+            let comes : ComesTo (split_step.machine setting.image) (StatesMatch setting) next after = record { last = after; quiet = Rests after; related = next_match } in
+            let SameMoves : TypedMove → SplitMove → Type 0 = Alike (ComesTo (split_step.machine setting.image) (StatesMatch setting)) (EndingsMatch setting) in
+            IsLoud from quiet (subst (λ m. SameMoves m (split_step.move setting.image from)) (sym typed) (subst (SameMoves (Does need [] next)) (sym moves) (BothDo need [] next after comes)))
 
     -- the typed machine goes on quietly, and the split one over several instructions
     pub goes_quietly : (to : ℕ) (values : List Value) (last : SplitFrame) → move setting.world state ≡ Does no_need [] (with_frames state (at_pc here.frame to values ∷ here.frames))
@@ -115,4 +114,4 @@ module _ {setting : Setting} {state : State} {other : split.State} {instruction 
         → Matches (machine setting.world) (split_step.machine setting.image) (StatesMatch setting) (EndingsMatch setting) state other
     goes_quietly to values last typed carries pc_is quiet =
         IsQuiet (with_frames state (at_pc here.frame to values ∷ here.frames)) typed
-        (record { last = split.with_frames other (last ∷ here.others); quiet = quiet; related = next_match no_need to values last typed carries pc_is })
+        (record { last = split.with_frames other (last ∷ here.others); quiet = quiet; related = next_match no_need to values typed last carries pc_is })
