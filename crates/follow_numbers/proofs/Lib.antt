@@ -10,3 +10,9 @@ pub mod TakenNumbers
 pub mod NumberBranches
 -- numbers that become others
 pub mod UnaryNumbers
+-- frames that catch what is thrown
+pub mod CaughtFrames
+-- throws of the machine
+pub mod MachineThrows
+-- arithmetic of two whole numbers
+pub mod BinaryNumbers

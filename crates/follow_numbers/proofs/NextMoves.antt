@@ -39,10 +39,10 @@ module _ {setting : Setting} {state : State} {other : split.State} {instruction 
   next_there (Some to) values fits = (to, refl)
 
   module _ (insn : MInsn) (rows : List SwitchRow) (emitted : emitted_at setting (body_at here) here.frame.pc instruction ≡ (insn, rows) ∷ []) where
-    stands_alone : StandsInExpansion setting (body_at here) here.split here.frame.pc instruction [] insn rows []
+    pub stands_alone : StandsInExpansion setting (body_at here) here.split here.frame.pc instruction [] insn rows []
     stands_alone = youngest_stands setting here.frame here.split here.youngest instruction here.at insn rows [] emitted
 
-    is_alone : IsInsn insn rows
+    pub is_alone : IsInsn insn rows
     is_alone = insn_here setting (body_at here) here.split here.frame.pc instruction [] insn rows (code.insns (body_at here) (found_at here).of_set) [] stands_alone
 
     abbrev pub next_offset : ℕ
