@@ -1,3 +1,5 @@
+-- something is known of each operand
+pub mod KnownOperands
 -- operands of wide bodies by their values
 pub mod WideOperands
 -- states that match behind an instruction
@@ -6,13 +8,13 @@ pub mod NextStates
 pub mod NextMoves
 -- whole numbers that are taken off the operands
 pub mod TakenNumbers
--- jumps, and branches on whole numbers
-pub mod NumberBranches
--- numbers that become others
-pub mod UnaryNumbers
 -- frames that catch what is thrown
 pub mod CaughtFrames
 -- throws of the machine
 pub mod MachineThrows
 -- arithmetic of two whole numbers
 pub mod BinaryNumbers
+-- numbers that become others
+pub mod UnaryNumbers
+-- jumps, and branches on whole numbers
+pub mod NumberBranches

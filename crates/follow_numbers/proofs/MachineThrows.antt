@@ -32,6 +32,7 @@ use Rattle.match_code.specs.Standing.{emitted_at}
 use Rattle.match_code.proofs.MatchedCode.{found_body}
 use Rattle.match_views.proofs.MatchedLists.{each_count}
 use Rattle.match_views.proofs.NextObjects.{each_joined}
+use Rattle.follow_numbers.proofs.KnownOperands.{body_operands}
 use Rattle.follow_numbers.specs.WideCode.{IsWideCode, StandsAt}
 use Rattle.follow_numbers.proofs.WideOperands.{frame_shapes}
 use Rattle.follow_numbers.proofs.NextStates.{body_at, is_unstuck}
@@ -62,7 +63,7 @@ module _ (setting : Setting) (code : IsWideCode setting) (state : State) (other 
       let youngest = fits.frames.0 in
       let known : table_for setting entered.body target ≡ Some youngest.types = ap (λ id. setting.tables id target) found.method ∙ youngest.known in
       let shapes =
-      frame_shapes setting.world after.objects youngest.body setting entered.body (code.wide entered.body found.of_set) target youngest.types known (code.known entered.body found.of_set target youngest.types known)
+      frame_shapes setting.world after.objects youngest.body setting entered.body (code.wide entered.body found.of_set) target youngest.types known (body_operands setting code.compiled entered.body found.of_set target youngest.types known)
       (Name name ∷ []) youngest.has.operands in
       let locals = entered.locals in
       let here : YoungestMatches setting (at_pc frame target (Name name ∷ [])) (split_moves.at_handler split row name) =

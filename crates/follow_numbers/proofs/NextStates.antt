@@ -24,6 +24,7 @@ use Rattle.match_states.specs.Setting.{Setting, table_for, source_for, widths_fo
 use Rattle.match_states.specs.TypedView.{machine}
 use Rattle.match_code.proofs.MatchedCode.{IsFound, found_body}
 use Rattle.match_views.proofs.NextFrames.{states_with_frames}
+use Rattle.follow_numbers.proofs.KnownOperands.{body_operands}
 use Rattle.follow_numbers.specs.WideCode.{value_refs, value_cells, IsWideCode, StandsAt, HasOperands}
 use Rattle.follow_numbers.proofs.WideOperands.{AreShaped, frame_shapes}
 
@@ -54,7 +55,7 @@ module _ {setting : Setting} {state : State} {other : split.State} {instruction 
         let fits = (subst (FramesFit setting.world setting.tables state.objects) here.frames_are here.match.fits.frames).0 in
         let known : table_for setting body_at here.frame.pc ≡ Some fits.types = ap (λ id. setting.tables id here.frame.pc) found_at.method ∙ fits.known in
         frame_shapes setting.world state.objects fits.body setting body_at (code.wide body_at found_at.of_set) here.frame.pc fits.types known
-        (code.known body_at found_at.of_set here.frame.pc fits.types known) here.frame.operands fits.has.operands
+        (body_operands setting code.compiled body_at found_at.of_set here.frame.pc fits.types known) here.frame.operands fits.has.operands
 
     pub refs_at : here.split.refs.operands ≡ value_refs here.frame.operands
     refs_at = here.youngest.operands.refs_are ∙ operands_at.refs
@@ -75,7 +76,7 @@ module _ {setting : Setting} {state : State} {other : split.State} {instruction 
           let fits = next_fits.frames.0 in
           let known : table_for setting body_at to ≡ Some fits.types = ap (λ id. setting.tables id to) found_at.method ∙ fits.known in
           frame_shapes setting.world state.objects fits.body setting body_at (code.wide body_at found_at.of_set) to fits.types known
-          (code.known body_at found_at.of_set to fits.types known) values fits.has.operands
+          (body_operands setting code.compiled body_at found_at.of_set to fits.types known) values fits.has.operands
 
       module _ (last : SplitFrame) (carries : HasOperands here.split last values) (pc_is : last.pc ≡ offset_of (source_for setting body_at) to) where
         next_youngest : YoungestMatches setting (at_pc here.frame to values) last

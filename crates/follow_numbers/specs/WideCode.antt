@@ -5,7 +5,6 @@ use Rattle.std.specs.List.{AllByRecursion, Contains}
 use Rattle.cell_num.specs.Cells.{low_cell, high_cell}
 use Rattle.body_form.specs.declared.body.Body.{Body}
 use Rattle.body_form.specs.declared.op.Op.{Op}
-use Rattle.body_form.specs.declared.types.VFrame.{VFrame}
 use Rattle.body_form.specs.declared.types.VType.{VType}
 use Rattle.jvm_model.specs.Bodies.{AreEach}
 use Rattle.jvm_model.specs.State.{Value, Whole}
@@ -17,7 +16,7 @@ use Rattle.typed_machine.specs.TypedState.{Frame, State}
 use Rattle.type_safety.specs.Safety.{FactsKeepSafe}
 use Rattle.match_states.specs.Followed.{StatesMatch}
 use Rattle.match_states.specs.MatchedFrames.{reference_of, YoungestMatches, WaitingMatches}
-use Rattle.match_states.specs.Setting.{Setting, IsCompiled, IsWide, table_for}
+use Rattle.match_states.specs.Setting.{Setting, IsCompiled, IsWide}
 use Rattle.match_code.specs.Standing.{AreInsns}
 
 -- ---- values in both halves
@@ -55,7 +54,6 @@ pub record IsWideCode (setting : Setting) : Type 0 where
   pub compiled : IsCompiled setting
   pub safe : FactsKeepSafe
   pub wide : (body : Body) → Contains setting.world.bodies body → IsWide setting body
-  pub known : (body : Body) → Contains setting.world.bodies body → (pc : ℕ) (types : VFrame) → table_for setting body pc ≡ Some types → AllByRecursion MayBeOperand types.stack
   pub insns : (body : Body) → Contains setting.world.bodies body → AreInsns setting body
 
 -- ---- where frames stand
