@@ -97,7 +97,7 @@ module _ (setting : Setting) (code : IsWideCode setting) (type class : ℕ) (cat
           let row : typed.handler_of setting.world class frame ≡ first = ap (option_and_then (λ (body : Body). first_handler setting.world class (guards_at body frame.pc))) searched.found in
           subst (λ found. CaughtAlike setting name (option_map_or (λ (guard : Guard). Some (at_pc frame guard.target (Name name ∷ []) ∷ frames)) found (typed.caught setting.world class name frames)) (split.caught setting.image type name (other ∷ others))) (sym row)
           (subst (λ found. CaughtAlike setting name (option_map_or (λ (guard : Guard). Some (at_pc frame guard.target (Name name ∷ []) ∷ frames)) first (typed.caught setting.world class name frames))
-            (option_map_or (λ (row : HandlerEntry). Some (split.at_handler other row name ∷ others)) found (split.caught setting.image type name others))) (sym searched.row) (by_row first waiting later))
+          (option_map_or (λ (row : HandlerEntry). Some (split.at_handler other row name ∷ others)) found (split.caught setting.image type name others))) (sym searched.row) (by_row first waiting later))
 
     caught_waiting : (frames : List Frame) (others : List SplitFrame) → AreEach (WaitingMatches setting) frames others → CaughtAlike setting name (typed.caught setting.world class name frames) (split.caught setting.image type name others)
     unfolding typed.caught split.caught

@@ -18,3 +18,5 @@ pub mod BinaryNumbers
 pub mod UnaryNumbers
 -- jumps, and branches on whole numbers
 pub mod NumberBranches
+-- branches on references
+pub mod ReferenceBranches
