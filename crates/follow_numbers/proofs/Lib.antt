@@ -20,3 +20,7 @@ pub mod UnaryNumbers
 pub mod NumberBranches
 -- branches on references
 pub mod ReferenceBranches
+-- where the youngest frame stands
+pub mod FrameStands
+-- what stands beside a relation
+pub mod HeldBeside
