@@ -24,3 +24,5 @@ pub mod ReferenceBranches
 pub mod FrameStands
 -- what stands beside a relation
 pub mod HeldBeside
+-- objects of the library that the machine throws
+pub mod LibraryObjects
