@@ -4,5 +4,7 @@ mod fitting
 mod facts
 -- moves, family by family
 mod moves
+-- from a state that fits there is a move, and the next state fits
+pub mod SafeMoves
 -- moves from a state that fits lead to states that fit
 mod SafeRuns

@@ -1,3 +1,5 @@
+-- the whole numbers of constant pools have 32 bits
+pub mod PoolNumbers
 -- what is above a class by each way up, and where lookups that go up end
 pub mod ClassWays
 -- what is read of a class file keeps the rules of its members

@@ -1,3 +1,5 @@
+-- what instructions make of numbers of 32 bits are such numbers
+pub mod Numbers
 -- lists whose items are so one by one, and what they contain
 pub mod SetLists
 -- such lists by their parts, turned around or mapped

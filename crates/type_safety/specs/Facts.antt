@@ -1,6 +1,7 @@
--- What typed code stands on in a set, beside its types: where control goes there are instructions, and what
--- instructions name is there, of the type that they say.
-use Rattle.std.specs.Prelude.{◌≡◌, ◌⊎◌, ℕ, ◌≤◌, Bool, true, false, List, [], ◌∷◌, Option, Some, None}
+-- What typed code stands on in a set, beside its types: where control goes there are instructions, constants have 32
+-- bits, and what instructions name is there, of the type that they say.
+use Rattle.std.specs.Prelude.{◌≡◌, ◌⊎◌, ℕ, ◌≤◌, Bool, true, false, List, [], ◌∷◌, Option, Some, None, FitsSigned}
+use Rattle.std.specs.Int.{w32}
 use Rattle.std.specs.List.{Contains}
 use Rattle.std.specs.Str.{bytes_eq}
 use Rattle.library.specs.declared.natives.Native.{Native}
@@ -18,6 +19,8 @@ use Rattle.class_tree.specs.Subtypes.{class_type}
 use Rattle.body_form.specs.declared.body.Body.{Body}
 use Rattle.body_form.specs.declared.body.Guard.{Guard}
 use Rattle.body_form.specs.declared.op.FieldUse.{FieldUse}
+use Rattle.body_form.specs.declared.op.Literal.{Literal}
+use Rattle.body_form.specs.declared.op.Literal.TheVariants as literal
 use Rattle.body_form.specs.declared.op.MethodUse.{MethodUse}
 use Rattle.body_form.specs.declared.op.Op.{Op}
 use Rattle.body_form.specs.declared.op.Op.TheVariants as op
@@ -37,6 +40,13 @@ pub record Leads (body : Body) (pc : ℕ) (instruction : Op) : Type 0 where
   pub starts : (to : ℕ) → Contains (successors body.ops pc) to → IsStart body.ops to
   -- one that goes on and is not the last leads to the next
   pub next : goes_on instruction ≡ true → is_last body.ops pc ≡ false → (to : ℕ) × (pc_after body.ops pc ≡ Some to) × Contains (successors body.ops pc) to
+
+-- ---- constants
+
+-- a constant that is a number has 32 bits
+abbrev pub ConstantFits : Literal → Type 0
+ConstantFits (literal.Int number) = FitsSigned w32 number
+ConstantFits literal.Null = Unit {0}
 
 -- ---- members
 
@@ -132,8 +142,9 @@ pub record IsSpecial (world : World) (own : ℕ) (used : MethodUse) : Type 0 whe
 abbrev pub NoArray : World → MethodUse → Type 0
 NoArray world used = (array : TypeRef) → fits world.files (known.Ref array) (class_type used.class) ≡ true → array.dims ≡ 0
 
--- what an instruction of a body of a class names is there
+-- what an instruction of a body of a class names is there, and its constant has 32 bits
 abbrev pub Named : World → ℕ → Op → Type 0
+Named world own (op.Const constant) = ConstantFits constant
 Named world own (op.GetStatic used) = IsStaticField world used
 Named world own (op.PutStatic used) = IsStaticField world used
 Named world own (op.GetField used) = IsInstanceField world used

@@ -1,5 +1,6 @@
 -- States of the typed machine that fit the types of their methods (JVMS 4.10.2): values, frames, objects and statics.
-use Rattle.std.specs.Prelude.{◌≡◌, ◌⊎◌, ℕ, ℤ, ◌≤◌, true, false, List, [], ◌∷◌, Option, Some, None, option_and_then, slice_get, if◌then◌else◌}
+use Rattle.std.specs.Prelude.{◌≡◌, ◌⊎◌, ℕ, ℤ, pos, ◌≤◌, true, false, List, [], ◌∷◌, length, Option, Some, None, option_and_then, slice_get, if◌then◌else◌, FitsSigned}
+use Rattle.std.specs.Int.{w32}
 use Rattle.std.specs.List.{AllByRecursion}
 use Rattle.class_pool.specs.declared.descriptor.Kind.{Kind}
 use Rattle.class_pool.specs.declared.types.MemberId.{MemberId}
@@ -31,8 +32,9 @@ Tables = MemberId → Table
 
 -- ---- values
 
+-- a whole number of 32 bits
 abbrev pub IsWhole : Value → Type 0
-IsWhole value = (number : ℤ) × (value ≡ Whole number)
+IsWhole value = (number : ℤ) × (value ≡ Whole number) × FitsSigned w32 number
 
 -- the value is the name of an object of which this holds
 pub record NamesObject (objects : List Object) (value : Value) (Has : Object → Type 0) : Type 0 where
@@ -89,12 +91,12 @@ pub record FieldFits (world : World) (objects : List Object) (fields : Fields) (
 -- ---- objects and statics
 
 -- An object's class is neither abstract nor an interface, and it has the fields of its class and superclasses. Each
--- element of an array fits its component.
+-- element of an array fits its component, and its length has 32 bits.
 abbrev pub ObjectFits : World → List Object → Object → Type 0
 ObjectFits world objects (Instance class fields) =
     IsClass world.files class × (is_interface (flags_of world.files class) ≡ false) × (is_abstract (flags_of world.files class) ≡ false)
     × ((id : MemberId) (field : Declaration) → instance_field world.files class id ≡ Some field → FieldFits world objects fields id field)
-ObjectFits world objects (Elements array elements) = IsType world.files array × (1 ≤ array.dims) × AllByRecursion (TypeFits world objects (component_of array)) elements
+ObjectFits world objects (Elements array elements) = IsType world.files array × (1 ≤ array.dims) × AllByRecursion (TypeFits world objects (component_of array)) elements × FitsSigned w32 (pos (length elements))
 
 -- the static field of a member
 abbrev pub static_field : List ClassFile → MemberId → Option Declaration

@@ -11,6 +11,8 @@ use Rattle.class_code.specs.declared.refusal.CodeRefusal.{CodeRefusal}
 use Rattle.class_code.specs.declared.refusal.CodeRefusal.TheVariants as fault
 use Rattle.class_code.specs.Code.{Insns, decoded, HandlerFits, handler_fits, first_other, first_unfit}
 use Rattle.class_code.proofs.Firsts.{none_exactly}
+use Rattle.class_code.proofs.Laws.{code-found}
+use Rattle.class_code.proofs.Numbers.{HasNumbers, hold-numbers}
 use Rattle.class_code.proofs.Starts.{handler-tells}
 use Rattle.jvm_model.specs.declared.refusal.Refusal.{Refusal}
 use Rattle.jvm_model.specs.Phases.{first_refusal, record_in, unless_unfit, fault_in, fault_of, refusal_of_code, method_refusal, class_refusal, code_refusal}
@@ -22,6 +24,7 @@ use Rattle.type_safety.proofs.facts.ReadRules.{FileRules, file_keeps}
 pub record FitsCode (code : CodeAttr) : Type 0 where
   pub insns : Insns
   pub is : decoded code.code ≡ Ok insns
+  pub numbers : AllByRecursion (λ x. HasNumbers x.1) insns
   pub rows : AllByRecursion (HandlerFits insns (length code.code)) code.handlers
 
 abbrev pub FitsMethod : Member → Type 0
@@ -51,7 +54,9 @@ rows_fit code insns e =
     (none_exactly (handler_fits insns (length code.code)) (HandlerFits insns (length code.code)) (handler-tells insns (length code.code)) code.handlers).0 none
 
 code_fits : (code : CodeAttr) (read : Result Insns CodeRefusal) → decoded code.code ≡ read → fault_in code read ≡ None → FitsCode code
-code_fits code (Ok insns) is e = record { insns = insns; is = is; rows = rows_fit code insns e }
+code_fits code (Ok insns) is e =
+    let found = code-found code.code insns is in
+    record { insns = insns; is = is; numbers = hold-numbers 0 code.code insns found.stand.0 [] found.stand.1; rows = rows_fit code insns e }
 code_fits code (Err why) is e = absurd (let bad : Some why ≡ None = e in cc)
 
 method_fits : (file member : ℕ) (m : Member) → method_refusal file member m ≡ None → FitsMethod m

@@ -30,6 +30,7 @@ use Rattle.jvm_model.specs.State.{Whole}
 use Rattle.jvm_model.specs.TypesFrames.{value_in, value_of_kind}
 use Rattle.typed_machine.specs.TypedState.{Object}
 use Rattle.typed_machine.specs.TypedWorld.{World, kind_of, default_of_kind}
+use Rattle.type_safety.proofs.fitting.Numbers.{small_fits}
 use Rattle.type_safety.specs.Fitting.{KindFits}
 
 -- ---- types as descriptors have them
@@ -124,7 +125,7 @@ module _ (world : World) (objects : List Object) where
   DefaultFits k = KindFits world objects k (default_of_kind k)
 
   zero_fits : (k : Kind) → value_of_kind world.files k ≡ Some known.Int → KindFits world objects k (Whole (pos 0))
-  zero_fits k is = record { type = known.Int; is = is; has = λ body. (pos 0, refl) }
+  zero_fits k is = record { type = known.Int; is = is; has = λ body. (pos 0, refl, small_fits 0 (omega arith)) }
 
   array_default : (dims : ℕ) (of : Base) → 1 ≤ dims → (found : TypeBase) → base_named world.files of ≡ Ok found → DefaultFits (kind.Array dims of)
   array_default zero of some found is = absurd (omega (arith, some))

@@ -1,5 +1,5 @@
 -- The phases of a set give what its bodies stand on.
-use Rattle.std.proofs.Common.{◌≡◌, ◌⊎◌, inl, inr, ℕ, zero, suc, ◌-◌, ◌≤◌, Bool, true, false, ◌&&◌, ◌||◌, not, nat_eq, nat_le, List, [], ◌∷◌, map, Option, Some, None, Ok, refl, sym, ap, subst, ◌∙◌, arith, eqb-true}
+use Rattle.std.proofs.Common.{◌≡◌, ◌⊎◌, inl, inr, ℕ, ℤ, zero, suc, ◌-◌, ◌≤◌, Bool, true, false, ◌&&◌, ◌||◌, not, nat_eq, nat_le, List, [], ◌∷◌, map, Option, Some, None, Ok, refl, sym, ap, subst, ◌∙◌, arith, eqb-true}
 use Rattle.std.specs.List.{AllByRecursion, Contains}
 use Rattle.std.specs.Option.{ok_or, option_map_or}
 use Rattle.std.specs.Str.{bytes_eq}
@@ -7,14 +7,16 @@ use Rattle.std.proofs.lemmas.Bool.{and_parts, leb-true}
 use Rattle.class_pool.specs.declared.types.TypeBase.{TypeBase}
 use Rattle.class_pool.specs.declared.types.TypeBase.TheVariants as base
 use Rattle.class_pool.specs.declared.types.TypeRef.{TypeRef}
-use Rattle.class_pool.specs.Pool.{Slots, utf8_at, integer_at, class_name_at}
+use Rattle.class_pool.specs.Pool.{Slots, utf8_at, integer_at, class_name_at, EachEntry}
 use Rattle.class_file.specs.declared.record.ClassFile.{ClassFile}
 use Rattle.class_file.specs.declared.record.CodeAttr.{CodeAttr}
 use Rattle.class_file.specs.Rules.{is_interface, is_abstract, is_public, is_named, is_initialiser as is_initialiser_head}
 use Rattle.class_file.specs.ReadingMembers.{head_in}
 use Rattle.class_code.specs.declared.insn.Insn.{Insn}
 use Rattle.class_code.specs.declared.insn.Insn.TheVariants as insns
+use Rattle.class_code.specs.Code.{Insns}
 use Rattle.class_code.specs.Flow.{code_ways}
+use Rattle.class_code.proofs.Numbers.{HasNumbers}
 use Rattle.code_reach.specs.Reached as reach
 use Rattle.body_form.specs.declared.body.Body.{Body}
 use Rattle.body_form.specs.declared.op.Literal.TheVariants as literal
@@ -33,6 +35,7 @@ use Rattle.jvm_model.specs.Bodies.{AreBodies, IsFamily, IsResolved, IsNop}
 use Rattle.jvm_model.specs.FieldUses.{field_used}
 use Rattle.jvm_model.specs.Instructions.{may_be_made_of, may_be_made, may_be_element, has_counted, any_type, element_of, read_of, write_of, op_of}
 use Rattle.jvm_model.specs.Linking.{Linking}
+use Rattle.jvm_model.specs.ProgramOf.{insns_in}
 use Rattle.jvm_model.specs.MethodUses.{initialiser_name, virtual_call, static_call, interface_call, special_call}
 use Rattle.jvm_model.specs.Resolution.{and_then, where_passes, type_with, type_named, type_used, may_use_base}
 use Rattle.jvm_model.specs.TypesRight.{IsRight}
@@ -44,7 +47,8 @@ use Rattle.type_safety.specs.Fitting.{Tables}
 use Rattle.type_safety.specs.Safety.{PhasesGiveFacts, method_of}
 use Rattle.type_safety.proofs.fitting.SetLists.{none_some, same_some, all_at, all_contained, not_true_is, each_back}
 use Rattle.type_safety.proofs.facts.ReadRules.{MethodRules, HasCode}
-use Rattle.type_safety.proofs.facts.CodeRead.{IsRead, files_read}
+use Rattle.type_safety.proofs.facts.CodeRead.{FitsMethod, IsRead, files_read}
+use Rattle.type_safety.proofs.facts.PoolNumbers.{IntegerFits, integer_fits}
 use Rattle.type_safety.proofs.facts.CodedBodies.{IsBodyOf, body_of}
 use Rattle.type_safety.proofs.facts.Control.{same_op, op_there}
 use Rattle.type_safety.proofs.facts.CodeStanding.{stands_of_set, stays_within}
@@ -68,6 +72,12 @@ no_interface_code true false true true code c e n has is = none_some c (sym has 
 no_initialiser : (o : Option (List ℕ)) → option_map_or (bytes_eq initialiser_name) o false ≡ false → is_named initialiser_name o ≡ false
 no_initialiser None e = refl
 no_initialiser (Some name) e = other_way initialiser_name name e
+
+-- ---- numbers of the pool
+
+found_ok : {E : Type 0} (found : Option ℤ) (why : E) (number : ℤ) → ok_or found why ≡ Ok number → found ≡ Some number
+found_ok None why number e = cc
+found_ok (Some other) why number e = cc
 
 -- ---- classes that are made
 
@@ -128,69 +138,69 @@ module _ (world : World) (gathers : Gathers world.files None) (rank : ℕ → �
 
   -- ---- instructions
 
-  op_named : (from : ℕ) (pool : Slots) → is_interface (flags_of files from) ≡ false → (insn : Insn) (found : Op) → ((used : MethodUse) → found ≡ op.CallSpecial used → is_named_constructor used ≡ true → is_interface (flags_of files used.class) ≡ false)
-      → op_of files from pool insn ≡ Ok found → Named world from found
-  op_named from pool own_class insns.Nop found constructed e = subst (Named world from) (same_op (op.Nop) found e) tt
-  op_named from pool own_class insns.Null found constructed e = subst (Named world from) (same_op (op.Const literal.Null) found e) tt
-  op_named from pool own_class (insns.Push number) found constructed e = subst (Named world from) (same_op (op.Const (literal.Int number)) found e) tt
-  op_named from pool own_class (insns.Load kind local) found constructed e = subst (Named world from) (same_op (op.Load kind local) found e) tt
-  op_named from pool own_class (insns.Store kind local) found constructed e = subst (Named world from) (same_op (op.Store kind local) found e) tt
-  op_named from pool own_class (insns.Inc local amount) found constructed e = subst (Named world from) (same_op (op.Inc local amount) found e) tt
-  op_named from pool own_class (insns.Stack form) found constructed e = subst (Named world from) (same_op (op.Stack form) found e) tt
-  op_named from pool own_class (insns.Bin operation) found constructed e = subst (Named world from) (same_op (op.Bin operation) found e) tt
-  op_named from pool own_class insns.Neg found constructed e = subst (Named world from) (same_op (op.Unary unary.Neg) found e) tt
-  op_named from pool own_class (insns.Convert conv) found constructed e = subst (Named world from) (same_op (op.Unary (unary.Convert conv)) found e) tt
-  op_named from pool own_class (insns.If cond target) found constructed e = subst (Named world from) (same_op (op.If cond target) found e) tt
-  op_named from pool own_class (insns.IfCmp cond target) found constructed e = subst (Named world from) (same_op (op.IfCmp cond target) found e) tt
-  op_named from pool own_class (insns.IfRef cond target) found constructed e = subst (Named world from) (same_op (op.IfRef cond target) found e) tt
-  op_named from pool own_class (insns.Goto target) found constructed e = subst (Named world from) (same_op (op.Goto target) found e) tt
-  op_named from pool own_class (insns.Switch form default rows) found constructed e = subst (Named world from) (same_op (op.Switch form default rows) found e) tt
-  op_named from pool own_class (insns.Return kind) found constructed e = subst (Named world from) (same_op (op.Return kind) found e) tt
-  op_named from pool own_class insns.ArrayLength found constructed e = subst (Named world from) (same_op (op.ArrayLength) found e) tt
-  op_named from pool own_class (insns.ArrayLoad kind) found constructed e = subst (Named world from) (same_op (op.ArrayLoad kind) found e) tt
-  op_named from pool own_class (insns.ArrayStore kind) found constructed e = subst (Named world from) (same_op (op.ArrayStore kind) found e) tt
-  op_named from pool own_class insns.Throw found constructed e = subst (Named world from) (same_op (op.Throw) found e) tt
-  op_named from pool own_class (insns.NewArray kind) found constructed e = subst (Named world from) (same_op (op.NewArray (type_with 1 (element_of kind))) found e) (omega arith)
-  op_named from pool own_class (insns.Ldc index) found constructed e =
+  op_named : (from : ℕ) (pool : Slots) → is_interface (flags_of files from) ≡ false → EachEntry IntegerFits pool → (insn : Insn) (found : Op) → ((used : MethodUse) → found ≡ op.CallSpecial used → is_named_constructor used ≡ true → is_interface (flags_of files used.class) ≡ false)
+      → op_of files from pool insn ≡ Ok found → HasNumbers insn → Named world from found
+  op_named from pool own_class entries insns.Nop found constructed e numbers = subst (Named world from) (same_op (op.Nop) found e) tt
+  op_named from pool own_class entries insns.Null found constructed e numbers = subst (Named world from) (same_op (op.Const literal.Null) found e) tt
+  op_named from pool own_class entries (insns.Push number) found constructed e numbers = subst (Named world from) (same_op (op.Const (literal.Int number)) found e) numbers
+  op_named from pool own_class entries (insns.Load kind local) found constructed e numbers = subst (Named world from) (same_op (op.Load kind local) found e) tt
+  op_named from pool own_class entries (insns.Store kind local) found constructed e numbers = subst (Named world from) (same_op (op.Store kind local) found e) tt
+  op_named from pool own_class entries (insns.Inc local amount) found constructed e numbers = subst (Named world from) (same_op (op.Inc local amount) found e) tt
+  op_named from pool own_class entries (insns.Stack form) found constructed e numbers = subst (Named world from) (same_op (op.Stack form) found e) tt
+  op_named from pool own_class entries (insns.Bin operation) found constructed e numbers = subst (Named world from) (same_op (op.Bin operation) found e) tt
+  op_named from pool own_class entries insns.Neg found constructed e numbers = subst (Named world from) (same_op (op.Unary unary.Neg) found e) tt
+  op_named from pool own_class entries (insns.Convert conv) found constructed e numbers = subst (Named world from) (same_op (op.Unary (unary.Convert conv)) found e) tt
+  op_named from pool own_class entries (insns.If cond target) found constructed e numbers = subst (Named world from) (same_op (op.If cond target) found e) tt
+  op_named from pool own_class entries (insns.IfCmp cond target) found constructed e numbers = subst (Named world from) (same_op (op.IfCmp cond target) found e) tt
+  op_named from pool own_class entries (insns.IfRef cond target) found constructed e numbers = subst (Named world from) (same_op (op.IfRef cond target) found e) tt
+  op_named from pool own_class entries (insns.Goto target) found constructed e numbers = subst (Named world from) (same_op (op.Goto target) found e) tt
+  op_named from pool own_class entries (insns.Switch form default rows) found constructed e numbers = subst (Named world from) (same_op (op.Switch form default rows) found e) tt
+  op_named from pool own_class entries (insns.Return kind) found constructed e numbers = subst (Named world from) (same_op (op.Return kind) found e) tt
+  op_named from pool own_class entries insns.ArrayLength found constructed e numbers = subst (Named world from) (same_op (op.ArrayLength) found e) tt
+  op_named from pool own_class entries (insns.ArrayLoad kind) found constructed e numbers = subst (Named world from) (same_op (op.ArrayLoad kind) found e) tt
+  op_named from pool own_class entries (insns.ArrayStore kind) found constructed e numbers = subst (Named world from) (same_op (op.ArrayStore kind) found e) tt
+  op_named from pool own_class entries insns.Throw found constructed e numbers = subst (Named world from) (same_op (op.Throw) found e) tt
+  op_named from pool own_class entries (insns.NewArray kind) found constructed e numbers = subst (Named world from) (same_op (op.NewArray (type_with 1 (element_of kind))) found e) (omega arith)
+  op_named from pool own_class entries (insns.Ldc index) found constructed e numbers =
       let made = then_ok (λ number. Ok (op.Const (literal.Int number))) (ok_or (integer_at pool index) WrongKind) found e in
-      subst (Named world from) (same_op (op.Const (literal.Int made.0)) found made.2) tt
-  op_named from pool own_class (insns.GetStatic index) found constructed e =
+      subst (Named world from) (same_op (op.Const (literal.Int made.0)) found made.2) (integer_fits pool index made.0 entries (found_ok (integer_at pool index) WrongKind made.0 made.1))
+  op_named from pool own_class entries (insns.GetStatic index) found constructed e numbers =
       let made = then_ok (λ used. Ok (op.GetStatic used)) (field_used files from pool (read_of true) index) found e in
       subst (Named world from) (same_op (op.GetStatic made.0) found made.2) (named_static world gathers rank ranked read from pool (read_of true) index made.0 refl made.1)
-  op_named from pool own_class (insns.PutStatic index) found constructed e =
+  op_named from pool own_class entries (insns.PutStatic index) found constructed e numbers =
       let made = then_ok (λ used. Ok (op.PutStatic used)) (field_used files from pool (write_of true) index) found e in
       subst (Named world from) (same_op (op.PutStatic made.0) found made.2) (named_static world gathers rank ranked read from pool (write_of true) index made.0 refl made.1)
-  op_named from pool own_class (insns.GetField index) found constructed e =
+  op_named from pool own_class entries (insns.GetField index) found constructed e numbers =
       let made = then_ok (λ used. Ok (op.GetField used)) (field_used files from pool (read_of false) index) found e in
       subst (Named world from) (same_op (op.GetField made.0) found made.2) (named_instance world gathers rank ranked read from pool (read_of false) index made.0 refl made.1)
-  op_named from pool own_class (insns.PutField index) found constructed e =
+  op_named from pool own_class entries (insns.PutField index) found constructed e numbers =
       let made = then_ok (λ used. Ok (op.PutField used)) (field_used files from pool (write_of false) index) found e in
       subst (Named world from) (same_op (op.PutField made.0) found made.2) (named_instance world gathers rank ranked read from pool (write_of false) index made.0 refl made.1)
-  op_named from pool own_class (insns.CallVirtual index) found constructed e =
+  op_named from pool own_class entries (insns.CallVirtual index) found constructed e numbers =
       let made = then_ok (λ used. Ok (op.CallVirtual used)) (virtual_call files from pool index) found e in
       subst (Named world from) (same_op (op.CallVirtual made.0) found made.2) (named_virtual world gathers rank ranked read are links from pool index made.0 made.1)
-  op_named from pool own_class (insns.CallSpecial index) found constructed e =
+  op_named from pool own_class entries (insns.CallSpecial index) found constructed e numbers =
       let made = then_ok (λ used. Ok (op.CallSpecial used)) (special_call files from pool index) found e in
       subst (Named world from) (same_op (op.CallSpecial made.0) found made.2) (named_special world gathers rank ranked read are links from pool index made.0 own_class (constructed made.0 (sym (same_op (op.CallSpecial made.0) found made.2))) made.1)
-  op_named from pool own_class (insns.CallStatic index) found constructed e =
+  op_named from pool own_class entries (insns.CallStatic index) found constructed e numbers =
       let made = then_ok (λ used. Ok (op.CallStatic used)) (static_call files from pool index) found e in
       subst (Named world from) (same_op (op.CallStatic made.0) found made.2) (named_static_call world gathers rank ranked read are links from pool index made.0 made.1)
-  op_named from pool own_class (insns.CallInterface index count) found constructed e =
+  op_named from pool own_class entries (insns.CallInterface index count) found constructed e numbers =
       let made = then_ok (λ used. Ok (op.CallInterface used)) (interface_call files from pool count index) found e in
       subst (Named world from) (same_op (op.CallInterface made.0) found made.2) (named_interface world gathers rank ranked read are links from pool count index made.0 made.1)
-  op_named from pool own_class (insns.New index) found constructed e =
+  op_named from pool own_class entries (insns.New index) found constructed e numbers =
       let made = then_ok (λ type. Ok (op.New type)) (type_used files from pool (may_be_made files) index) found e in
       subst (Named world from) (same_op (op.New made.0) found made.2) (named_new from pool index made.0 made.1)
-  op_named from pool own_class (insns.NewRefArray index) found constructed e =
+  op_named from pool own_class entries (insns.NewRefArray index) found constructed e numbers =
       let made = then_ok (λ type. Ok (op.NewArray (array_of type))) (type_used files from pool may_be_element index) found e in
       subst (Named world from) (same_op (op.NewArray (array_of made.0)) found made.2) (omega arith)
-  op_named from pool own_class (insns.CheckCast index) found constructed e =
+  op_named from pool own_class entries (insns.CheckCast index) found constructed e numbers =
       let made = then_ok (λ type. Ok (op.CheckCast type)) (type_used files from pool any_type index) found e in
       subst (Named world from) (same_op (op.CheckCast made.0) found made.2) tt
-  op_named from pool own_class (insns.InstanceOf index) found constructed e =
+  op_named from pool own_class entries (insns.InstanceOf index) found constructed e numbers =
       let made = then_ok (λ type. Ok (op.InstanceOf type)) (type_used files from pool any_type index) found e in
       subst (Named world from) (same_op (op.InstanceOf made.0) found made.2) tt
-  op_named from pool own_class (insns.MultiArray index dims) found constructed e =
+  op_named from pool own_class entries (insns.MultiArray index dims) found constructed e numbers =
       let made = then_ok (λ type. Ok (op.MultiArray type dims)) (type_used files from pool (has_counted dims) index) found e in
       subst (Named world from) (same_op (op.MultiArray made.0 dims) found made.2) (counted_within dims made.0 (used_passes from pool (has_counted dims) index made.0 made.1))
 
@@ -210,24 +220,36 @@ module _ (world : World) (gathers : Gathers world.files None) (rank : ℕ → �
         ∙ no_interface_code (is_interface of.coded.file.flags) (is_initialiser_head of.coded.file.pool (head_in of.coded.method)) (is_public of.coded.method.flags) (is_abstract of.coded.method.flags) of.coded.method.code of.coded.code rules.of_interface
         (no_initialiser (utf8_at of.coded.file.pool of.coded.method.name) of.stands.named) rules.has_code of.stands.code
 
+    file_read : IsRead of.coded.file
+    unfolding of
+    file_read = all_at IsRead files read (of.coded.class - 32) of.coded.file of.stands.file
+
+    entries : EachEntry IntegerFits of.coded.file.pool
+    entries = file_read.rules.numbers
+
+    -- the numbers of its instructions have as many bits as they may
+    insn_numbers : AllByRecursion (λ x. HasNumbers x.1) of.coded.insns
+    unfolding of
+    insn_numbers =
+        let code = all_at FitsMethod of.coded.file.methods file_read.codes of.coded.position of.coded.method of.stands.method of.coded.code of.stands.code in
+        let same : code.insns ≡ of.coded.insns = same_some code.insns of.coded.insns (sym (ap insns_in code.is) ∙ of.stands.insns) in
+        subst (λ (l : Insns). AllByRecursion (λ x. HasNumbers x.1) l) same code.numbers
+
     -- an instruction of the body, with what is reached
     record IsMade (pc : ℕ) (instruction : Op) : Type 0 where
       insn : Insn
       reached : reach.IsReached (code_ways of.coded.code.handlers of.coded.insns) pc
       is : op_of files of.coded.class of.coded.file.pool insn ≡ Ok instruction
+      numbers : HasNumbers insn
 
     made_or_nop : (pc : ℕ) (instruction : Op) → op_at body.ops pc ≡ Some instruction → IsMade pc instruction ⊎ (instruction ≡ op.Nop)
     made_or_nop pc instruction at =
-        let each = each_back (IsFamily files of.coded.class of.coded.file.pool (code_ways of.coded.code.handlers of.coded.insns)) (λ x. Unit {0}) of.coded.insns body.ops (all_unit of.coded.insns) of.is.ops (pc, instruction) (op_there body.ops pc instruction at) in
-        by_family each.0 each.2
+        let each = each_back (IsFamily files of.coded.class of.coded.file.pool (code_ways of.coded.code.handlers of.coded.insns)) (λ x. HasNumbers x.1) of.coded.insns body.ops insn_numbers of.is.ops (pc, instruction) (op_there body.ops pc instruction at) in
+        by_family each.0 each.1 each.2
       where
-        all_unit : (xs : List (ℕ × Insn)) → AllByRecursion (λ x. Unit {0}) xs
-        all_unit [] = tt
-        all_unit (x ∷ xs) = (tt, all_unit xs)
-
-        by_family : (x : ℕ × Insn) → IsFamily files of.coded.class of.coded.file.pool (code_ways of.coded.code.handlers of.coded.insns) x (pc, instruction) → IsMade pc instruction ⊎ (instruction ≡ op.Nop)
-        by_family x (IsResolved same reached is) = inl (record { insn = x.1; reached = subst (reach.IsReached (code_ways of.coded.code.handlers of.coded.insns)) (sym same) reached; is = is })
-        by_family x (IsNop same unreached is) = inr is
+        by_family : (x : ℕ × Insn) → HasNumbers x.1 → IsFamily files of.coded.class of.coded.file.pool (code_ways of.coded.code.handlers of.coded.insns) x (pc, instruction) → IsMade pc instruction ⊎ (instruction ≡ op.Nop)
+        by_family x numbers (IsResolved same reached is) = inl (record { insn = x.1; numbers = numbers; reached = subst (reach.IsReached (code_ways of.coded.code.handlers of.coded.insns)) (sym same) reached; is = is })
+        by_family x numbers (IsNop same unreached is) = inr is
 
     -- what is made at a pc is an object of a class of which there are objects
     makes_concrete : (class pc : ℕ) → makes_class class (op_at body.ops pc) ≡ true → is_interface (flags_of files class) ≡ false
@@ -235,7 +257,7 @@ module _ (world : World) (gathers : Gathers world.files None) (rank : ℕ → �
         let made = made_class class (op_at body.ops pc) e in
         elim (made_or_nop pc (op.New made.0) made.1) [
           | inl insn ↦
-              let named = op_named of.coded.class of.coded.file.pool own_class insn.insn (op.New made.0) (λ used other. absurd (never made.0 used other)) insn.is in
+              let named = op_named of.coded.class of.coded.file.pool own_class entries insn.insn (op.New made.0) (λ used other. absurd (never made.0 used other)) insn.is insn.numbers in
               let same : named.0 ≡ class = same_class named.0 class (sym (ap (λ (t : TypeRef). t.base) named.1) ∙ made.2) in
               ap (λ (c : ℕ). is_interface (flags_of files c)) (sym same) ∙ named.2.1
           | inr nop ↦ absurd (no_nop made.0 nop)
@@ -284,8 +306,8 @@ module _ (world : World) (gathers : Gathers world.files None) (rank : ℕ → �
           named = λ pc instruction at. elim (made_or_nop pc instruction at) [
             | inl made ↦
                 subst (λ (c : ℕ). Named world c instruction) (sym of.is.class)
-                (op_named of.coded.class of.coded.file.pool own_class made.insn instruction
-                (λ used same. constructed pc used (at ∙ ap (λ (o : Op). Some o) same) (subst (IsMade pc) same made)) made.is)
+                (op_named of.coded.class of.coded.file.pool own_class entries made.insn instruction
+                (λ used same. constructed pc used (at ∙ ap (λ (o : Op). Some o) same) (subst (IsMade pc) same made)) made.is made.numbers)
             | inr nop ↦ subst (Named world body.class) (sym nop) tt
           ];
         }

@@ -7,7 +7,7 @@ use Rattle.byte_read.proofs.Steps.{bind_then, ok_is, no_failure, passes, roomy, 
 use Rattle.byte_read.specs.Reading.{slice_at, steps_at, one_more}
 use Rattle.class_pool.specs.declared.descriptor.Descriptor.{Descriptor}
 use Rattle.class_pool.specs.DescriptorReading.{method_of}
-use Rattle.class_pool.specs.Pool.{Slots, utf8_at}
+use Rattle.class_pool.specs.Pool.{Slots, utf8_at, EachEntry}
 use Rattle.class_file.specs.declared.record.ClassFile.{ClassFile}
 use Rattle.class_file.specs.declared.record.CodeAttr.{CodeAttr}
 use Rattle.class_file.specs.declared.record.Member.{Member}
@@ -18,6 +18,7 @@ use Rattle.class_file.specs.Rules.{is_abstract, is_code_size, is_named, has_one_
 use Rattle.class_file.specs.Reading.{u2_at, u4_at, counted_at, list_at}
 use Rattle.class_file.specs.ReadingMembers.{text_at, info_at, skip_all_at, handlers_at, code_bytes_at, code_parts, as_shape, code_at, method_attribute_at, method_attributes_at, head_in, described, field_type, method_type, head_at, field_head_at, method_head_at, field_attributes_at, field_at, method_at, fields_at, methods_at}
 use Rattle.class_file.specs.ReadingClass.{version_at, pool_at, class_head_at, members_at, body_of, class_of, capped}
+use Rattle.type_safety.proofs.facts.PoolNumbers.{IntegerFits, pool_fits}
 
 -- ---- the rules
 
@@ -43,6 +44,7 @@ abbrev pub FieldRules : ℕ → Member → Type 0
 FieldRules class_flags m = fits_interface_field class_flags m.flags ≡ true
 
 pub record FileRules (file : ClassFile) : Type 0 where
+  pub numbers : EachEntry IntegerFits file.pool
   pub fields : AllByRecursion (FieldRules file.flags) file.fields
   pub methods : AllByRecursion (MethodRules file.flags file.pool) file.methods
 
@@ -208,6 +210,7 @@ body_keeps bytes file e =
     let kept_fields = items_keep (field_at head.0.flags pool.0) (FieldRules head.0.flags) (field_keeps head.0.flags pool.0) head.1 fields at_fields in
     let kept_methods = items_keep (method_at head.0.flags pool.0) (MethodRules head.0.flags pool.0) (method_keeps head.0.flags pool.0) fields.1 methods at_methods in
     subst FileRules made.1 (record {
+      numbers = pool_fits version.1 pool at_pool;
       fields = subst (λ (l : List Member). AllByRecursion (FieldRules head.0.flags) l) (ap (λ (m : List Member × List Member). m.0) are) kept_fields;
       methods = subst (λ (l : List Member). AllByRecursion (MethodRules head.0.flags pool.0) l) (ap (λ (m : List Member × List Member). m.1) are) kept_methods;
     }))))))))

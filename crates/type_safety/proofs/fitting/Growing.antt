@@ -140,7 +140,7 @@ module _ (world : World) (tables : Tables) (old new : List Object) (grown : Grow
     fit.2,
     λ id field is. let had = fit.3 id field is in record { value = had.value; is = had.is; has = (growing_fits world tables old new grown).kind _ had.value had.has },
   )
-  object_stays (Elements array elements) fit = (fit.0, fit.1, all_stay _ elements fit.2)
+  object_stays (Elements array elements) fit = (fit.0, fit.1, all_stay _ elements fit.2, fit.3)
 
   pub objects_stay : (objects : List Object) → AllByRecursion (ObjectFits world old) objects → AllByRecursion (ObjectFits world new) objects
   objects_stay [] all = tt

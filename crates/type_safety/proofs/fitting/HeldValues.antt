@@ -27,6 +27,7 @@ use Rattle.type_safety.specs.Fitting.{Tables, IsWhole, NamesObject, ValueFits, K
 use Rattle.type_safety.specs.Parts.{GrownFits}
 use Rattle.type_safety.proofs.fitting.FitsOver.{fits_over}
 use Rattle.type_safety.proofs.fitting.GrownObjects.{all_at}
+use Rattle.type_safety.proofs.fitting.Numbers.{narrowed_fits}
 
 -- values that fit types go on to fit them
 pub each_grows : (world : World) (tables : Tables) (old new : List Object) → GrownFits world tables old new → (body : Body) (values : List Value) (types : List VType)
@@ -61,7 +62,7 @@ module _ (world : World) (gathers : Gathers world.files None) (objects : List Ob
   kept_null kind value upper (inr names) = subst (λ v. kept_as kind v ≡ v) (sym names.is) refl
 
   kept_number : (body : Body) (kind : Kind) (value : Value) (type : VType) → ValueFits world objects body value type → is_int type ≡ true → IsWhole (kept_as kind value)
-  kept_number body kind value known.Int has e = subst (λ v. IsWhole (kept_as kind v)) (sym has.1) (narrowed kind has.0, refl)
+  kept_number body kind value known.Int has e = subst (λ v. IsWhole (kept_as kind v)) (sym has.1) (narrowed kind has.0, refl, narrowed_fits kind has.0 has.2)
   kept_number body kind value type has e = cc
 
   kept_type : (body other : Body) (kind : Kind) (value : Value) (type : VType) (declared : TypeRef) (refers : Bool) → is_reference declared.dims declared.base ≡ refers → IsKnown world.files type

@@ -33,6 +33,7 @@ use Rattle.jvm_model.specs.State.{Null}
 use Rattle.jvm_model.specs.TypesFrames.{value_in, value_of_kind}
 use Rattle.typed_machine.specs.TypedState.{Object}
 use Rattle.typed_machine.specs.TypedWorld.{World, kind_of, default_of_kind, new_object}
+use Rattle.type_safety.proofs.fitting.Numbers.{small_fits}
 use Rattle.type_safety.specs.Facts.{IsConcrete}
 use Rattle.type_safety.specs.Fitting.{KindFits, ObjectFits}
 
@@ -153,11 +154,11 @@ module _ (world : World) (objects : List Object) where
 
   -- 0 or null fits
   pub default_fits : (kind : Kind) → IsOfNames world.files kind → KindFits world objects kind (default_of_kind kind)
-  default_fits kind.Byte is = record { type = known.Int; is = refl; has = λ body. (pos 0, refl) }
-  default_fits kind.Char is = record { type = known.Int; is = refl; has = λ body. (pos 0, refl) }
-  default_fits kind.Short is = record { type = known.Int; is = refl; has = λ body. (pos 0, refl) }
-  default_fits kind.Int is = record { type = known.Int; is = refl; has = λ body. (pos 0, refl) }
-  default_fits kind.Boolean is = record { type = known.Int; is = refl; has = λ body. (pos 0, refl) }
+  default_fits kind.Byte is = record { type = known.Int; is = refl; has = λ body. (pos 0, refl, small_fits 0 (omega arith)) }
+  default_fits kind.Char is = record { type = known.Int; is = refl; has = λ body. (pos 0, refl, small_fits 0 (omega arith)) }
+  default_fits kind.Short is = record { type = known.Int; is = refl; has = λ body. (pos 0, refl, small_fits 0 (omega arith)) }
+  default_fits kind.Int is = record { type = known.Int; is = refl; has = λ body. (pos 0, refl, small_fits 0 (omega arith)) }
+  default_fits kind.Boolean is = record { type = known.Int; is = refl; has = λ body. (pos 0, refl, small_fits 0 (omega arith)) }
   default_fits (kind.Class name) is =
       let found = class_there (number_of world.files name) is.there in
       null_fits (kind.Class name) (type_with 0 (bases.Class found.0)) (ap (λ o. value_in (and_then (λ b. Ok (type_with 0 b)) (and_then (λ class. Ok (bases.Class class)) (ok_or o Unresolved)))) found.1)

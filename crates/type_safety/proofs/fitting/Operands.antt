@@ -1,6 +1,7 @@
 -- Operands and locals by their types: those that an instruction's tests take, and those that it leaves.
 use Rattle.std.proofs.Common.{◌≡◌, ℕ, zero, suc, Bool, true, List, [], ◌∷◌, ◌++◌, length, drop, Option, Some, None, refl, sym, ap, subst, ◌∙◌}
-use Rattle.std.specs.Prelude.{ℤ, slice_get, slice_set}
+use Rattle.std.specs.Int.{w32}
+use Rattle.std.specs.Prelude.{ℤ, slice_get, slice_set, FitsSigned}
 use Rattle.std.specs.List.{AllByRecursion}
 use Rattle.std.proofs.lemmas.Bool.{and_parts}
 use Rattle.std.proofs.lemmas.Option.{cond_some}
@@ -104,8 +105,8 @@ module _ (world : World) (objects : List Object) (body : Body) where
   int_with value type e fits = cc
 
   -- what holds of whole numbers holds of a value that passes as an int
-  pub whole_case : (P : Value → Type 0) (value : Value) → Passes world objects body value is_int → ((number : ℤ) → P (Whole number)) → P value
-  whole_case P value passes each = let is = int_with value passes.type passes.passes passes.fits in subst P (sym is.1) (each is.0)
+  pub whole_case : (P : Value → Type 0) (value : Value) → Passes world objects body value is_int → ((number : ℤ) → FitsSigned w32 number → P (Whole number)) → P value
+  whole_case P value passes each = let is = int_with value passes.type passes.passes passes.fits in subst P (sym is.1) (each is.0 is.2)
 
 -- ---- plain rules
 

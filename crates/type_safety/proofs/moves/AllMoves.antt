@@ -32,7 +32,7 @@ use Rattle.type_safety.proofs.moves.ThrowMoves.{throw_moves}
 
 each_fits : (world : World) (own : ℕ) (instruction : Op) → Named world own instruction → MoveLemma instruction
 each_fits world own op.Nop named = nop_moves
-each_fits world own (op.Const constant) named = const_moves constant
+each_fits world own (op.Const constant) named = const_moves constant named
 each_fits world own (op.Load kind local) named = load_moves kind local
 each_fits world own (op.Store kind local) named = store_moves kind local
 each_fits world own (op.Inc local amount) named = inc_moves local amount

@@ -1,8 +1,10 @@
 -- The arguments of a call fit the parameters: each passes the test of its parameter, and is narrowed to a whole number.
-use Rattle.std.proofs.Common.{◌≡◌, ℕ, ℤ, ◌≤◌, Bool, true, false, ◌&&◌, inl, inr, List, [], ◌∷◌, ◌++◌, map, reverse, length, take, drop, Some, None, unwrap_or, Ok, Err, if◌then◌else◌, refl, sym, ap, subst, ◌∙◌, arith}
+use Rattle.std.proofs.Common.{◌≡◌, ℕ, ℤ, ◌≤◌, Bool, true, false, ◌&&◌, inl, inr, List, [], ◌∷◌, ◌++◌, map, reverse, length, take, drop, Some, None, unwrap_or, Ok, Err, if◌then◌else◌, refl, sym, ap, subst, ◌∙◌, arith, FitsSigned}
+use Rattle.std.specs.Int.{w32}
 use Rattle.std.specs.List.{AllByRecursion}
 use Rattle.std.proofs.lemmas.Bool.{and_parts}
 use Rattle.std.proofs.lemmas.List.{length-reverse, length-map, reverse-append}
+use Rattle.cell_num.specs.declared.conversions.Conv.TheVariants as conv
 use Rattle.class_pool.specs.declared.descriptor.Kind.{Kind}
 use Rattle.class_pool.specs.declared.descriptor.Kind.TheVariants as kinds
 use Rattle.class_pool.specs.declared.types.TypeRef.{TypeRef}
@@ -25,6 +27,7 @@ use Rattle.typed_machine.specs.TypedWorld.{World, type_of}
 use Rattle.type_safety.specs.Fitting.{IsWhole, NamesObject, ValueFits, KindFits, ObjectFits}
 use Rattle.type_safety.proofs.fitting.EachLists.{each_reverse, each_of_map, of_place}
 use Rattle.type_safety.proofs.fitting.FitsOver.{refs_over}
+use Rattle.type_safety.proofs.fitting.Numbers.{converted_fits, narrowed_fits}
 
 -- ---- tests that pass
 
@@ -80,19 +83,22 @@ object_type world objects (Elements array elements) has = has.0
 
 -- whole numbers stay whole, and references stay
 pub record Narrows (f : Value → Value) : Type 0 where
-  pub whole : (number : ℤ) → IsWhole (f (Whole number))
+  pub whole : (number : ℤ) → FitsSigned w32 number → IsWhole (f (Whole number))
   pub null : f Null ≡ Null
   pub name : (name : ℕ) → f (Name name) ≡ Name name
 
 pub argument_narrows : (kind : Kind) → Narrows (argument_for kind)
-argument_narrows kinds.Boolean = record { whole = λ number. (_, refl); null = refl; name = λ name. refl }
-argument_narrows kinds.Byte = record { whole = λ number. (_, refl); null = refl; name = λ name. refl }
-argument_narrows kinds.Short = record { whole = λ number. (_, refl); null = refl; name = λ name. refl }
-argument_narrows kinds.Char = record { whole = λ number. (_, refl); null = refl; name = λ name. refl }
-argument_narrows kind = record { whole = λ number. (number, refl); null = refl; name = λ name. refl }
+argument_narrows kinds.Boolean = record { whole = λ number fits. (_, refl, converted_fits conv.Short number); null = refl; name = λ name. refl }
+argument_narrows kinds.Byte = record { whole = λ number fits. (_, refl, converted_fits conv.Short number); null = refl; name = λ name. refl }
+argument_narrows kinds.Short = record { whole = λ number fits. (_, refl, converted_fits conv.Short number); null = refl; name = λ name. refl }
+argument_narrows kinds.Char = record { whole = λ number fits. (_, refl, converted_fits conv.Char number); null = refl; name = λ name. refl }
+argument_narrows kind = record { whole = λ number fits. (number, refl, fits); null = refl; name = λ name. refl }
 
 pub kept_narrows : (kind : Kind) → Narrows (kept_as kind)
-kept_narrows kind = record { whole = λ number. (_, refl); null = refl; name = λ name. refl }
+kept_narrows kind = record { whole = λ number fits. (_, refl, narrowed_fits kind number fits); null = refl; name = λ name. refl }
+
+same_whole : (a b : ℤ) → Whole a ≡ Whole b → a ≡ b
+same_whole a b e = cc
 
 module _ (world : World) (objects : List Object) where
   no_name : {Has : Object → Type 0} (number : ℤ) → NamesObject objects (Whole number) Has → ⊥
@@ -100,7 +106,7 @@ module _ (world : World) (objects : List Object) where
 
   whole_narrows : (f : Value → Value) → Narrows f → (body : Body) (number : ℤ) (type : VType) → ValueFits world objects body (Whole number) type → ValueFits world objects body (f (Whole number)) type
   whole_narrows f narrows body number known.Top has = tt
-  whole_narrows f narrows body number known.Int has = narrows.whole number
+  whole_narrows f narrows body number known.Int has = narrows.whole number (let same : has.0 ≡ number = same_whole has.0 number (sym has.1) in subst (FitsSigned w32) same has.2)
   whole_narrows f narrows body number known.Null has = cc
   whole_narrows f narrows body number (known.Ref type) has = elim has [ inl null ↦ cc | inr names ↦ absurd (no_name number names) ]
   whole_narrows f narrows body number (known.New pc) has = absurd (no_name number has)

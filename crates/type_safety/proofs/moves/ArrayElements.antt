@@ -1,5 +1,7 @@
 -- What arrays that fit the type of an instruction hold: their elements are of its kind, and what is stored is too.
-use Rattle.std.proofs.Common.{◌≡◌, ◌⊎◌, ℕ, zero, suc, ◌-◌, ◌≤◌, pos, Bool, true, false, ◌&&◌, nat_eq, nat_le, inl, inr, List, replicate, None, if◌then◌else◌, refl, sym, ap, subst, ◌∙◌, arith}
+use Rattle.std.proofs.Common.{◌≡◌, ◌⊎◌, ℕ, zero, suc, ◌-◌, ◌≤◌, pos, Bool, true, false, ◌&&◌, nat_eq, nat_le, inl, inr, List, replicate, None, if◌then◌else◌, refl, sym, ap, subst, ◌∙◌, arith, FitsSigned}
+use Rattle.std.specs.Int.{w32}
+use Rattle.std.proofs.lemmas.List.{length-replicate}
 use Rattle.std.specs.Option.{option_map_or}
 use Rattle.std.specs.List.{AllByRecursion}
 use Rattle.std.proofs.lemmas.Bool.{cases_Bool, and_parts, and_right, eqb-true, leb-true}
@@ -27,6 +29,7 @@ use Rattle.type_safety.specs.Fitting.{IsWhole, NamesObject, ValueFits, TypeFits,
 use Rattle.type_safety.proofs.fitting.BelowFits.{below_fits}
 use Rattle.type_safety.proofs.fitting.GrownObjects.{all_at}
 use Rattle.type_safety.proofs.fitting.HeldValues.{object_type, reference_fits}
+use Rattle.type_safety.proofs.fitting.Numbers.{small_fits, element_fits}
 
 -- ---- new arrays
 
@@ -37,15 +40,19 @@ all_replicate P x is (suc n) = (is, all_replicate P x is n)
 default_either : (world : World) (objects : List Object) (body : Body) (type : TypeRef) (refers : Bool)
     → ValueFits world objects body (if refers then Null else Whole (pos 0)) (if refers then known.Ref type else known.Int)
 default_either world objects body type true = inl refl
-default_either world objects body type false = (pos 0, refl)
+default_either world objects body type false = (pos 0, refl, small_fits 0 (omega arith))
 
 -- what an element holds at first fits
 default_fits : (world : World) (objects : List Object) (type : TypeRef) → TypeFits world objects type (default_of_type type)
 default_fits world objects type body = default_either world objects body type (is_reference type.dims type.base)
 
-pub new_array_fits : (world : World) (objects : List Object) (array : TypeRef) (count : ℕ) → IsType world.files array → 1 ≤ array.dims → ObjectFits world objects (new_array array count)
-new_array_fits world objects array count known some =
-    (known, some, all_replicate (TypeFits world objects (component_of array)) (default_of_type (component_of array)) (default_fits world objects (component_of array)) count)
+pub new_array_fits : (world : World) (objects : List Object) (array : TypeRef) (count : ℕ) → FitsSigned w32 (pos count) → IsType world.files array → 1 ≤ array.dims → ObjectFits world objects (new_array array count)
+new_array_fits world objects array count counted known some = (
+  known,
+  some,
+  all_replicate (TypeFits world objects (component_of array)) (default_of_type (component_of array)) (default_fits world objects (component_of array)) count,
+  subst (λ (n : ℕ). FitsSigned w32 (pos n)) (sym (length-replicate count (default_of_type (component_of array)))) counted,
+)
 
 -- ---- arrays of a type
 
@@ -167,7 +174,7 @@ module _ (world : World) (gathers : Gathers world.files None) (objects : List Ob
 module _ (world : World) (gathers : Gathers world.files None) (state : State) (fit : AllByRecursion (ObjectFits world state.objects) state.objects) where
   whole_kept : (body : Body) (array : TypeRef) (value : Value) → IsWhole value → (refers : Bool) → refers ≡ false → ValueFits world state.objects body (kept_in array value) (if refers then known.Ref (component_of array) else known.Int)
   whole_kept body array value whole true e = cc
-  whole_kept body array value whole false e = subst (λ v. IsWhole (kept_in array v)) (sym whole.1) (kept_by_base array.base whole.0, refl)
+  whole_kept body array value whole false e = subst (λ v. IsWhole (kept_in array v)) (sym whole.1) (kept_by_base array.base whole.0, refl, element_fits array.base whole.0 whole.2)
 
   reference_kept : (body : Body) (array : TypeRef) (value : Value) → (value ≡ Null) ⊎ NamesObject state.objects value (λ object. Unit {0}) → IsType world.files (component_of array)
       → may_be_stored world state array value ≡ true → ValueFits world state.objects body (kept_in array value) (known.Ref (component_of array))

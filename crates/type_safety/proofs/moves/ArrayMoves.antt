@@ -1,5 +1,7 @@
 -- Arrays are made, and their lengths and elements read and written, as their types say.
-use Rattle.std.proofs.Common.{◌≡◌, ◌⊎◌, ℕ, ℤ, zero, suc, pos, negsuc, ◌<◌, ◌≤◌, Bool, true, false, ◌&&◌, nat_lt, inl, inr, List, [], ◌∷◌, length, Option, Some, None, if◌then◌else◌, refl, sym, ap, subst, ◌∙◌, arith}
+use Rattle.std.proofs.Common.{◌≡◌, ◌⊎◌, ℕ, ℤ, zero, suc, pos, negsuc, ◌<◌, ◌≤◌, Bool, true, false, ◌&&◌, nat_lt, inl, inr, List, [], ◌∷◌, length, Option, Some, None, if◌then◌else◌, refl, sym, ap, subst, ◌∙◌, arith, FitsSigned}
+use Rattle.std.specs.Int.{w32}
+use Rattle.std.proofs.lemmas.List.{length-set}
 use Rattle.std.specs.Prelude.{slice_get, slice_set}
 use Rattle.std.specs.Option.{option_map_or}
 use Rattle.std.proofs.lemmas.Bool.{and_parts, leb-true, ltb-true}
@@ -29,6 +31,7 @@ use Rattle.type_safety.proofs.moves.Lemmas.{MoveLemma}
 use Rattle.type_safety.proofs.fitting.BelowFits.{fits_itself}
 use Rattle.type_safety.proofs.fitting.GrownObjects.{all_at, all_set, next_name}
 use Rattle.type_safety.proofs.fitting.HeldValues.{each_grows}
+use Rattle.type_safety.proofs.fitting.Numbers.{count_fits}
 use Rattle.type_safety.proofs.moves.ArrayElements.{IsArrayOf, array_named, has_dims_of, are_references, read_as, read_fits, new_array_fits, stored_fits}
 use Rattle.type_safety.proofs.moves.NextStates.{At, Follows, plain_gives, names_known, rule, plain_rule, Goes, goes_by, steady, grows, append_follows, set_follows, bounds_fits, throws_fit, exception_thrown, object_fits, object_at_fits}
 
@@ -40,15 +43,15 @@ number_held world objects body value type has e = cc
 
 module _ {world : World} {tables : Tables} {state : State} {frame : Frame} {others : List Frame} {body : Body} {types after : VFrame} (array : TypeRef) (some : 1 ≤ array.dims)
     (at : At world tables state frame others body (op.NewArray array) types after) where
-  array_made : (negative : Bool) (count : ℕ) (operands : List Value) (stack : List VType) → AreEach (ValueFits world state.objects body) operands stack
+  array_made : (negative : Bool) (count : ℕ) → FitsSigned w32 (pos count) → (operands : List Value) (stack : List VType) → AreEach (ValueFits world state.objects body) operands stack
       → Goes at [] (known.Ref array ∷ []) stack
       → MoveFits world tables (if negative then throws world state (frame ∷ others) negative_array_size_exception
       else makes state frame others (pc_after body.ops frame.pc) operands (array_cells array count) (new_array array count))
-  array_made true count operands stack fit goes = exception_thrown at negative_array_size_exception (omega arith) refl refl refl
-  array_made false count operands stack fit goes =
+  array_made true count counted operands stack fit goes = exception_thrown at negative_array_size_exception (omega arith) refl refl refl
+  array_made false count counted operands stack fit goes =
       let new = new_array array count in
       let next = with_objects state (new ∷ []) in
-      let follows : Follows world tables state next = append_follows at (new ∷ []) (new_array_fits world next.objects array count (names_known at) some, tt) in
+      let follows : Follows world tables state next = append_follows at (new ∷ []) (new_array_fits world next.objects array count counted (names_known at) some, tt) in
       let pushed : ValueFits world next.objects body (Name (length state.objects)) (known.Ref array) =
       inr (record { name = length state.objects; object = new; is = refl; there = next_name state.objects [] new; has = fits_itself world.files at.set.closed array (names_known at) }) in
       goes (place_need (array_cells array count)) [] next (Name (length state.objects) ∷ operands) follows
@@ -63,7 +66,7 @@ module _ {world : World} {tables : Tables} {state : State} {frame : Frame} {othe
   new_array_moves (value ∷ operands) (top ∷ stack) fit e goes =
       let whole = number_held world state.objects body value top fit.0 (and_parts (is_int top) true e).0 in
       subst (λ v. MoveFits world tables (make_array world state frame others (pc_after body.ops frame.pc) array (v ∷ operands))) (sym whole.1)
-      (array_made (is_negative whole.0) (count_of whole.0) operands stack fit.1 goes)
+      (array_made (is_negative whole.0) (count_of whole.0) (count_fits whole.0 whole.2) operands stack fit.1 goes)
 
 pub new_array_moves_fit : (array : TypeRef) → 1 ≤ array.dims → MoveLemma (op.NewArray array)
 new_array_moves_fit array some parts world tables set state frame others frames fits body types after stands has =
@@ -98,8 +101,10 @@ module _ {world : World} {tables : Tables} {state : State} {frame : Frame} {othe
   length_moves (value ∷ operands) (top ∷ stack) fit e goes =
       object_fits at IsAnyArray value (λ name object. length_of state frame others (pc_after body.ops frame.pc) operands object)
       (any_array world state.objects body value top fit.0 (and_parts (is_array top) true e).0)
-      (λ name object there has. subst (λ o. MoveFits world tables (length_of state frame others (pc_after body.ops frame.pc) operands o)) (sym has.is)
-      (goes no_need [] state (Whole (pos (length has.elements)) ∷ operands) (steady at) ((pos (length has.elements), refl), fit.1)))
+      (λ name object there has.
+      let whole : ObjectFits world state.objects (Elements has.array has.elements) = subst (ObjectFits world state.objects) has.is (object_at_fits at name object there) in
+      subst (λ o. MoveFits world tables (length_of state frame others (pc_after body.ops frame.pc) operands o)) (sym has.is)
+      (goes no_need [] state (Whole (pos (length has.elements)) ∷ operands) (steady at) ((pos (length has.elements), refl, whole.3), fit.1)))
 
 pub array_length_fits : MoveLemma op.ArrayLength
 array_length_fits parts world tables set state frame others frames fits body types after stands has =
@@ -227,7 +232,12 @@ module _ {world : World} {tables : Tables} {state : State} {frame : Frame} {othe
       → TypeFits world state.objects (component_of array) (kept_in array value) → Follows world tables state (with_element state name array elements place value)
   element_set array elements name place value there kept =
       set_follows at name (Elements array elements) (Elements array (slice_set elements place (kept_in array value))) there refl
-      (λ objects grow old. (old.0, old.1, all_set (TypeFits world objects (component_of array)) elements place (kept_in array value) (grow.element (component_of array) (kept_in array value) kept) old.2))
+      (λ objects grow old. (
+        old.0,
+        old.1,
+        all_set (TypeFits world objects (component_of array)) elements place (kept_in array value) (grow.element (component_of array) (kept_in array value) kept) old.2,
+        subst (λ (n : ℕ). FitsSigned w32 (pos n)) (sym (length-set elements place (kept_in array value))) old.3,
+      ))
 
   stored_or_thrown : (operands : List Value) (value : Value) (name : ℕ) (array : TypeRef) (elements : List Value) (place : ℕ) (may : Bool)
       → (may ≡ true → MoveFits world tables (goes_on (with_element state name array elements place value) frame others (pc_after body.ops frame.pc) operands))

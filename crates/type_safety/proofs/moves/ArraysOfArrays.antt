@@ -1,9 +1,11 @@
 -- Arrays of arrays are made as their type says: each array that is made fits, and the parts of one are named by it.
-use Rattle.std.proofs.Common.{◌≡◌, ℕ, ℤ, zero, suc, ◌+◌, ◌-◌, ◌*◌, ◌≤◌, Bool, true, false, inr, List, [], ◌∷◌, ◌++◌, length, map, reverse, drop, replicate, Some, None, option_map, if◌then◌else◌, refl, sym, ap, subst, ◌∙◌, arith}
+use Rattle.std.proofs.Common.{◌≡◌, ℕ, ℤ, zero, suc, pos, ◌+◌, ◌-◌, ◌*◌, ◌≤◌, Bool, true, false, inr, List, [], ◌∷◌, ◌++◌, length, map, reverse, drop, replicate, Some, None, option_map, if◌then◌else◌, refl, sym, ap, subst, ◌∙◌, arith, FitsSigned}
+use Rattle.std.specs.Int.{w32}
 use Rattle.std.specs.Prelude.{slice_get}
 use Rattle.std.specs.List.{AllByRecursion, range_with_len, flat_map}
 use Rattle.std.proofs.lemmas.Bool.{and_parts}
-use Rattle.std.proofs.lemmas.List.{length-append, length-map, length-reverse}
+use Rattle.std.proofs.lemmas.List.{length-append, length-map, length-reverse, reverse-append}
+use Rattle.std.proofs.lemmas.List.FromFn.{length-range_with_len}
 use Rattle.class_pool.specs.declared.types.TypeBase.{TypeBase}
 use Rattle.class_pool.specs.declared.types.TypeRef.{TypeRef}
 use Rattle.class_tree.specs.Merge.{is_reference}
@@ -29,6 +31,7 @@ use Rattle.type_safety.proofs.moves.Lemmas.{MoveLemma}
 use Rattle.type_safety.proofs.fitting.BelowFits.{fits_itself}
 use Rattle.type_safety.proofs.fitting.GrownObjects.{all_append}
 use Rattle.type_safety.proofs.fitting.HeldValues.{each_grows}
+use Rattle.type_safety.proofs.fitting.Numbers.{count_fits}
 use Rattle.type_safety.proofs.moves.ArrayElements.{new_array_fits}
 use Rattle.type_safety.proofs.moves.ArrayMoves.{number_held}
 use Rattle.type_safety.proofs.moves.NextStates.{At, Follows, names_known, plain_rule, Goes, goes_by, grows, append_follows, exception_thrown}
@@ -84,6 +87,10 @@ outer array (count ∷ next ∷ counts) name some = (_, refl)
 
 -- ---- each fits
 
+-- a count of elements has 32 bits
+abbrev pub CountFits : ℕ → Type 0
+CountFits count = FitsSigned w32 (pos count)
+
 component_refers : (dims : ℕ) (of : TypeBase) → 2 ≤ dims → is_reference (dims - 1) of ≡ true
 component_refers zero of some = absurd (omega (arith, some))
 component_refers (suc zero) of some = absurd (omega (arith, some))
@@ -134,25 +141,30 @@ module _ (world : World) (gathers : Gathers world.files None) (all : List Object
         let here = placed_first all (name_of from) (part_of from) (flat_map part_of (range_with_len (from + 1) n)) placed in
         (part_named from here, names_fit n (from + 1) (next_part from n placed))
 
-  pub arrays_fit : (array : TypeRef) (counts : List ℕ) → IsType world.files array → length counts ≤ array.dims → (name : ℕ) → IsPlaced all name (arrays_of array counts name)
+  pub arrays_fit : (array : TypeRef) (counts : List ℕ) → AllByRecursion CountFits counts → IsType world.files array → length counts ≤ array.dims → (name : ℕ) → IsPlaced all name (arrays_of array counts name)
       → AllByRecursion (ObjectFits world all) (arrays_of array counts name)
   unfolding arrays_of
-  arrays_fit array [] is few name placed = tt
-  arrays_fit array (count ∷ []) is few name placed = (new_array_fits world all array count is (omega (arith, few)), tt)
-  arrays_fit array (count ∷ next ∷ counts) is few name placed =
+  arrays_fit array [] counted is few name placed = tt
+  arrays_fit array (count ∷ []) counted is few name placed = (new_array_fits world all array count counted.0 is (omega (arith, few)), tt)
+  arrays_fit array (count ∷ next ∷ counts) counted is few name placed =
       let component = component_of array in
       let inner = next ∷ counts in
       let refers : is_reference component.dims component.base ≡ true = component_refers array.dims array.base (omega (arith, few)) in
       let known_component : IsType world.files component = (is.0, has_dims component.dims component.base refers) in
       let some : 1 ≤ length inner = omega arith in
       let less : length inner ≤ component.dims = omega (arith, few) in
-      let each : (at : ℕ) → IsPlaced all at (arrays_of component inner at) → AllByRecursion (ObjectFits world all) (arrays_of component inner at) = arrays_fit component (next ∷ counts) known_component less in
+      let each : (at : ℕ) → IsPlaced all at (arrays_of component inner at) → AllByRecursion (ObjectFits world all) (arrays_of component inner at) = arrays_fit component (next ∷ counts) counted.1 known_component less in
       let part : ℕ → List Object = λ p. arrays_of component inner (name + 1 + p * array_count inner) in
       let outer_one : Object = Elements array (map (λ p. Name (name + 1 + p * array_count inner)) (range_with_len 0 count)) in
       let start : name + 1 ≡ name + 1 + 0 * array_count inner = omega arith in
       let parts_placed : IsPlaced all (name + 1 + 0 * array_count inner) (flat_map part (range_with_len 0 count)) =
       placed_second all name (name + 1 + 0 * array_count inner) (outer_one ∷ []) (flat_map part (range_with_len 0 count)) start placed in (
-        (is, omega (arith, few), names_fit component known_component refers inner some (name + 1) each count 0 parts_placed),
+        (
+          is,
+          omega (arith, few),
+          names_fit component known_component refers inner some (name + 1) each count 0 parts_placed,
+          subst CountFits (sym (length-map (range_with_len 0 count) (λ p. Name (name + 1 + p * array_count inner)) ∙ length-range_with_len 0 count)) counted.0,
+        ),
         parts_fit component known_component refers inner some (name + 1) each count 0 parts_placed,
       )
 
@@ -164,12 +176,13 @@ pub record HasCounts (world : World) (objects : List Object) (body : Body) (dims
   pub rest : List Value
   pub is : numbers_in dims operands ≡ Some (numbers, rest)
   pub count : length numbers ≡ dims
+  pub counted : AllByRecursion (FitsSigned w32) numbers
   pub fit : AreEach (ValueFits world objects body) rest (drop (length (replicate dims is_int)) stack)
 
 counts_held : (world : World) (objects : List Object) (body : Body) (dims : ℕ) (operands : List Value) (stack : List VType) → AreEach (ValueFits world objects body) operands stack
     → takes (replicate dims is_int) stack ≡ true → HasCounts world objects body dims operands stack
 unfolding takes numbers_in
-counts_held world objects body zero operands stack fit e = record { numbers = []; rest = operands; is = refl; count = refl; fit = fit }
+counts_held world objects body zero operands stack fit e = record { numbers = []; rest = operands; is = refl; count = refl; counted = tt; fit = fit }
 counts_held world objects body (suc dims) [] [] fit e = cc
 counts_held world objects body (suc dims) [] (type ∷ stack) fit e = absurd fit
 counts_held world objects body (suc dims) (value ∷ operands) [] fit e = absurd fit
@@ -182,24 +195,33 @@ counts_held world objects body (suc dims) (value ∷ operands) (type ∷ stack) 
       rest = more.rest;
       is = ap (λ v. numbers_in (suc dims) (v ∷ operands)) whole.1 ∙ ap (option_map (λ (r : List ℤ × List Value). (whole.0 ∷ r.0, r.1))) more.is;
       count = ap suc more.count;
+      counted = (whole.2, more.counted);
       fit = more.fit;
     }
+
+all_reverse : {X : Type 0} (P : X → Type 0) (xs : List X) → AllByRecursion P xs → AllByRecursion P (reverse xs)
+all_reverse P [] all = tt
+all_reverse P (x ∷ xs) all = subst (AllByRecursion P) (sym (reverse-append (x ∷ []) xs)) (all_append P (reverse xs) (x ∷ []) (all_reverse P xs all.1) (all.0, tt))
+
+counts_fit : (numbers : List ℤ) → AllByRecursion (FitsSigned w32) numbers → AllByRecursion CountFits (map count_of numbers)
+counts_fit [] all = tt
+counts_fit (number ∷ numbers) all = (count_fits number all.0, counts_fit numbers all.1)
 
 module _ {world : World} {tables : Tables} {state : State} {frame : Frame} {others : List Frame} {body : Body} {types after : VFrame} (array : TypeRef) (dims : ℕ) (some : 1 ≤ dims) (few : dims ≤ array.dims)
     (at : At world tables state frame others body (op.MultiArray array dims) types after) where
   abbrev tests : List (VType → Bool)
   tests = replicate dims is_int
 
-  arrays_made : (negative : Bool) (cells : ℕ) (counts : List ℕ) → length counts ≡ dims → (operands : List Value) → AreEach (ValueFits world state.objects body) operands (drop (length tests) types.stack)
+  arrays_made : (negative : Bool) (cells : ℕ) (counts : List ℕ) → AllByRecursion CountFits counts → length counts ≡ dims → (operands : List Value) → AreEach (ValueFits world state.objects body) operands (drop (length tests) types.stack)
       → Goes at tests (known.Ref array ∷ []) types.stack
       → MoveFits world tables (if negative then throws world state (frame ∷ others) negative_array_size_exception
       else does_next (place_need cells) [] (with_objects state (arrays_of array counts (length state.objects))) frame others (pc_after body.ops frame.pc) (Name (length state.objects) ∷ operands))
-  arrays_made true cells counts count operands fit goes = exception_thrown at negative_array_size_exception (omega arith) refl refl refl
-  arrays_made false cells counts count operands fit goes =
+  arrays_made true cells counts counted count operands fit goes = exception_thrown at negative_array_size_exception (omega arith) refl refl refl
+  arrays_made false cells counts counted count operands fit goes =
       let more = arrays_of array counts (length state.objects) in
       let next = with_objects state more in
       let placed : IsPlaced next.objects (length state.objects) more = behind state.objects more in
-      let fit_more = arrays_fit world at.set.closed next.objects array counts (names_known at) (omega (arith, count, few)) (length state.objects) placed in
+      let fit_more = arrays_fit world at.set.closed next.objects array counts counted (names_known at) (omega (arith, count, few)) (length state.objects) placed in
       let follows : Follows world tables state next = append_follows at more fit_more in
       let pushed = outer_named world at.set.closed next.objects array counts (length state.objects) (names_known at) (omega (arith, count, some)) placed body in
       goes (place_need cells) [] next (Name (length state.objects) ∷ operands) follows
@@ -211,7 +233,7 @@ module _ {world : World} {tables : Tables} {state : State} {frame : Frame} {othe
       let counts = map count_of (reverse held.numbers) in
       let count : length counts ≡ dims = length-map (reverse held.numbers) count_of ∙ length-reverse held.numbers ∙ held.count in
       subst (λ found. MoveFits world tables (make_arrays world state frame others (pc_after body.ops frame.pc) array found)) (sym held.is)
-      (arrays_made (any_negative held.numbers) (cells_of array counts) counts count held.rest held.fit goes)
+      (arrays_made (any_negative held.numbers) (cells_of array counts) counts (counts_fit (reverse held.numbers) (all_reverse (FitsSigned w32) held.numbers held.counted)) count held.rest held.fit goes)
 
 -- an instruction asks for one dimension or more, and for no more than the array has
 pub multi_array_fits : (array : TypeRef) (dims : ℕ) → 1 ≤ dims → dims ≤ array.dims → MoveLemma (op.MultiArray array dims)

@@ -1,6 +1,7 @@
 -- Instructions on locals and on the operand stack: loads, stores, increments, and operands that move as they are.
 use Rattle.std.proofs.Common.{◌≡◌, ℕ, Bool, true, false, ◌&&◌, nat_lt, List, [], ◌∷◌, ◌++◌, length, drop, Option, Some, None, option_and_then, if◌then◌else◌, refl, sym, ap, subst, ◌∙◌}
 use Rattle.std.specs.Prelude.{ℤ, ◌+ℤ◌, slice_get}
+use Rattle.std.proofs.lemmas.Int.{SFits-int_wrap}
 use Rattle.std.specs.Int.{w32, int_wrap}
 use Rattle.std.proofs.lemmas.Bool.{and_parts}
 use Rattle.std.proofs.lemmas.Option.{same_Some, cond_some}
@@ -113,7 +114,7 @@ module _ (world : World) (tables : Tables) (state : State) (frame : Frame) (othe
       let result = Whole (int_wrap w32 (whole.0 +ℤ amount)) in
       let moved = with_local frame local result in
       let int = is_int_type type holds.0 in
-      let here : Fits result type = subst (Fits result) (sym int) (int_wrap w32 (whole.0 +ℤ amount), refl) in
+      let here : Fits result type = subst (Fits result) (sym int) (int_wrap w32 (whole.0 +ℤ amount), refl, SFits-int_wrap w32 (whole.0 +ℤ amount)) in
       subst (λ v. MoveFits world tables (step.increment state frame others next local amount (Some v))) (sym whole.1)
       (goes at refl moved frame.operands
       (takes_none at [] change holds.1 reached moved refl (each_put Held frame.locals types.locals at.has.locals local (Some result) type is here) [] tt))

@@ -28,6 +28,7 @@ use Rattle.type_safety.specs.Facts.{RunsNative, params_of, result_of as gives, i
 use Rattle.type_safety.specs.Fitting.{Tables, IsWhole, ValueFits, FrameFits, KindFits, StateFits}
 use Rattle.type_safety.specs.Parts.{AreParts, StandsAt}
 use Rattle.type_safety.specs.Safety.{IsSet, MoveFits}
+use Rattle.type_safety.proofs.fitting.Numbers.{byte_fits}
 use Rattle.type_safety.proofs.moves.CallParts.{CallsFrom, native_goes_on}
 use Rattle.type_safety.proofs.moves.Lemmas.{StartingFits}
 
@@ -67,7 +68,7 @@ module _ (starting : StartingFits) (parts : AreParts) (world : World) (tables : 
       → MoveFits world tables (runs_native state frame others (pc_after body.ops frame.pc) natives.Read operands)) (sym is)
       (λ operands calls one.
       native_goes_on starting parts world tables set state frame others same fits body types after instruction stands typed operands calls goes (Whole (next_byte state.answers) ∷ [])
-      (subst (AreEach (ValueFits world state.objects body) (Whole (next_byte state.answers) ∷ [])) (sym one) ((next_byte state.answers, refl), tt)) tick_need (Get ∷ []) (after_byte state.answers))
+      (subst (AreEach (ValueFits world state.objects body) (Whole (next_byte state.answers) ∷ [])) (sym one) ((next_byte state.answers, refl, byte_fits state.answers), tt)) tick_need (Get ∷ []) (after_byte state.answers))
 
   pushes_none : (used : MethodUse) (pushes : List VType) → result_of world.files used.descriptor.result ≡ Some pushes → used.descriptor.result ≡ None → pushes ≡ []
   pushes_none used pushes e none = sym (same_Some [] pushes (sym (ap (result_of world.files) none) ∙ e))

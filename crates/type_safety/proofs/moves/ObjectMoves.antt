@@ -26,6 +26,7 @@ use Rattle.typed_machine.specs.TypedWorld.{World, kind_of, type_of, default_of_k
 use Rattle.type_safety.specs.Facts.{IsConcrete}
 use Rattle.type_safety.specs.Fitting.{Tables, IsWhole, NamesObject, ValueFits, LocalFits, FrameFits, ObjectFits}
 use Rattle.type_safety.specs.Safety.{MoveFits}
+use Rattle.type_safety.proofs.fitting.Numbers.{small_fits}
 use Rattle.type_safety.proofs.moves.Lemmas.{MoveLemma}
 use Rattle.type_safety.proofs.facts.FieldKinds.{kind_default, field_declared}
 use Rattle.type_safety.proofs.fitting.BelowFits.{below_fits}
@@ -173,8 +174,8 @@ module _ {world : World} {tables : Tables} {state : State} {frame : Frame} {othe
 module _ {world : World} {tables : Tables} {state : State} {frame : Frame} {others : List Frame} {body : Body} {types after : VFrame} (type : TypeRef)
     (at : At world tables state frame others body (op.InstanceOf type) types after) where
   one_whole : (is : Bool) → IsWhole (one_where is)
-  one_whole true = (pos 1, refl)
-  one_whole false = (pos 0, refl)
+  one_whole true = (pos 1, refl, small_fits 1 (omega arith))
+  one_whole false = (pos 0, refl, small_fits 0 (omega arith))
 
   test_fits : (operands : List Value) (stack : List VType) → AreEach (ValueFits world state.objects body) operands stack → takes (is_constructed ∷ []) stack ≡ true
       → Goes at (is_constructed ∷ []) (known.Int ∷ []) stack → MoveFits world tables (test world state frame others (pc_after body.ops frame.pc) type operands)

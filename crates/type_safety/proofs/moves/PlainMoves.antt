@@ -1,6 +1,7 @@
 -- Instructions that take operands by tests and push others: constants, whole numbers, branches and throws.
 use Rattle.std.proofs.Common.{◌≡◌, ℕ, Bool, true, false, not, List, [], ◌∷◌, map, Option, Some, None, unwrap_or, if◌then◌else◌, refl, arith}
-use Rattle.std.specs.Prelude.{ℤ, pos}
+use Rattle.std.specs.Int.{w32}
+use Rattle.std.specs.Prelude.{ℤ, pos, FitsSigned}
 use Rattle.std.specs.Ordering.{int_eq}
 use Rattle.std.specs.List.{Contains}
 use Rattle.std.proofs.lemmas.List.Elements.{Contains-append_right}
@@ -26,11 +27,13 @@ use Rattle.jvm_model.specs.TypesRules as rules
 use Rattle.typed_machine.specs.TypedState.{Object}
 use Rattle.typed_machine.specs.TypedStep as step
 use Rattle.typed_machine.specs.TypedWorld.{World, pc_after}
+use Rattle.type_safety.specs.Facts.{ConstantFits}
 use Rattle.type_safety.specs.Fitting.{ValueFits}
 use Rattle.type_safety.specs.Safety.{MoveFits}
 use Rattle.type_safety.proofs.moves.Going.{IsAt, change_at, goes, jump, branch, machine_throws, takes_none, takes_one, takes_two}
 use Rattle.type_safety.proofs.moves.Lemmas.{MoveLemma}
 use Rattle.type_safety.proofs.fitting.MachineThrows.{arithmetic_thrown}
+use Rattle.type_safety.proofs.fitting.Numbers.{result_fits, unary_fits}
 use Rattle.type_safety.proofs.fitting.Operands.{whole_case}
 
 -- the one target
@@ -58,9 +61,9 @@ chosen_among default tos (Some to) among = later default tos to (among to refl)
 
 -- ---- constants and jumps
 
-constant_fits : (world : World) (objects : List Object) (body : Body) (constant : Literal) → ValueFits world objects body (step.constant_of constant) (rules.constant_of constant)
-constant_fits world objects body (literal.Int number) = (number, refl)
-constant_fits world objects body literal.Null = refl
+constant_fits : (world : World) (objects : List Object) (body : Body) (constant : Literal) → ConstantFits constant → ValueFits world objects body (step.constant_of constant) (rules.constant_of constant)
+constant_fits world objects body (literal.Int number) fits = (number, refl, fits)
+constant_fits world objects body literal.Null fits = refl
 
 pub nop_moves : MoveLemma op.Nop
 nop_moves parts world tables set state frame others is fits body types after stands has =
@@ -68,13 +71,13 @@ nop_moves parts world tables set state frame others is fits body types after sta
     let by = change_at at in
     goes at refl frame frame.operands (takes_none at [] by.change by.is by.reached frame refl has.locals [] tt)
 
-pub const_moves : (constant : Literal) → MoveLemma (op.Const constant)
-const_moves constant parts world tables set state frame others is fits body types after stands has =
+pub const_moves : (constant : Literal) → ConstantFits constant → MoveLemma (op.Const constant)
+const_moves constant number parts world tables set state frame others is fits body types after stands has =
     let at : IsAt world tables state frame others body (op.Const constant) types after = record { set = set; is = is; fits = fits; stands = stands; has = has } in
     let by = change_at at in
     let value = step.constant_of constant in
     goes at refl frame (value ∷ frame.operands)
-    (takes_none at (rules.constant_of constant ∷ []) by.change by.is by.reached frame refl has.locals (value ∷ []) (constant_fits world state.objects body constant, tt))
+    (takes_none at (rules.constant_of constant ∷ []) by.change by.is by.reached frame refl has.locals (value ∷ []) (constant_fits world state.objects body constant number, tt))
 
 pub goto_moves : (target : ℕ) → MoveLemma (op.Goto target)
 goto_moves target parts world tables set state frame others is fits body types after stands has =
@@ -91,12 +94,12 @@ bin_moves operation parts world tables set state frame others is fits body types
     let next = pc_after body.ops frame.pc in
     let Goal : List Value → Type 0 = λ operands. MoveFits world tables (step.compute world state frame others next operation operands) in
     takes_two at is_int is_int (known.Int ∷ []) by.change by.is by.reached Goal (λ x y rest one two push.
-    whole_case world state.objects body (λ v. Goal (v ∷ y ∷ rest)) x one (λ b.
-    whole_case world state.objects body (λ v. Goal (Whole b ∷ v ∷ rest)) y two (λ a.
-    elim (applied operation a b) as (λ found. MoveFits world tables (step.result world state frame others next rest found)) [
-      | None ↦ machine_throws at 4 (arithmetic_thrown world set.closed)
-      | Some number ↦ goes at refl frame (Whole number ∷ rest) (push (Whole number ∷ []) ((number, refl), tt))
-    ])))
+    whole_case world state.objects body (λ v. Goal (v ∷ y ∷ rest)) x one (λ b b_fits.
+    whole_case world state.objects body (λ v. Goal (Whole b ∷ v ∷ rest)) y two (λ a a_fits.
+    elim (applied operation a b) as (λ found. ((number : ℤ) → found ≡ Some number → FitsSigned w32 number) → MoveFits world tables (step.result world state frame others next rest found)) [
+      | None ↦ λ fits. machine_throws at 4 (arithmetic_thrown world set.closed)
+      | Some number ↦ λ fits. goes at refl frame (Whole number ∷ rest) (push (Whole number ∷ []) ((number, refl, fits number refl), tt))
+    ] (λ number is. result_fits operation a b number a_fits b_fits is))))
 
 pub unary_moves : (operation : UnaryOp) → MoveLemma (op.Unary operation)
 unary_moves operation parts world tables set state frame others is fits body types after stands has =
@@ -104,9 +107,9 @@ unary_moves operation parts world tables set state frame others is fits body typ
     let by = change_at at in
     let Goal : List Value → Type 0 = λ operands. MoveFits world tables (step.convert state frame others (pc_after body.ops frame.pc) operation operands) in
     takes_one at is_int (known.Int ∷ []) by.change by.is by.reached Goal (λ x rest passes push.
-    whole_case world state.objects body (λ v. Goal (v ∷ rest)) x passes (λ number.
+    whole_case world state.objects body (λ v. Goal (v ∷ rest)) x passes (λ number fits_32.
     let result = step.unary_of operation number in
-    goes at refl frame (Whole result ∷ rest) (push (Whole result ∷ []) ((result, refl), tt))))
+    goes at refl frame (Whole result ∷ rest) (push (Whole result ∷ []) ((result, refl, unary_fits operation number), tt))))
 
 -- ---- branches
 
@@ -116,7 +119,7 @@ if_moves cond target parts world tables set state frame others is fits body type
     let by = change_at at in
     let Goal : List Value → Type 0 = λ operands. MoveFits world tables (step.if_number state frame others (pc_after body.ops frame.pc) (λ number. is_met cond number (pos 0)) target operands) in
     takes_one at is_int [] by.change by.is by.reached Goal (λ x rest passes push.
-    whole_case world state.objects body (λ v. Goal (v ∷ rest)) x passes (λ number. branch at refl (is_met cond number (pos 0)) target (only target) rest (push [] tt)))
+    whole_case world state.objects body (λ v. Goal (v ∷ rest)) x passes (λ number fits_32. branch at refl (is_met cond number (pos 0)) target (only target) rest (push [] tt)))
 
 pub if_cmp_moves : (cond : Cond) (target : ℕ) → MoveLemma (op.IfCmp cond target)
 if_cmp_moves cond target parts world tables set state frame others is fits body types after stands has =
@@ -124,8 +127,8 @@ if_cmp_moves cond target parts world tables set state frame others is fits body 
     let by = change_at at in
     let Goal : List Value → Type 0 = λ operands. MoveFits world tables (step.if_numbers state frame others (pc_after body.ops frame.pc) (is_met cond) target operands) in
     takes_two at is_int is_int [] by.change by.is by.reached Goal (λ x y rest one two push.
-    whole_case world state.objects body (λ v. Goal (v ∷ y ∷ rest)) x one (λ b.
-    whole_case world state.objects body (λ v. Goal (Whole b ∷ v ∷ rest)) y two (λ a. branch at refl (is_met cond a b) target (only target) rest (push [] tt))))
+    whole_case world state.objects body (λ v. Goal (v ∷ y ∷ rest)) x one (λ b b_fits.
+    whole_case world state.objects body (λ v. Goal (Whole b ∷ v ∷ rest)) y two (λ a a_fits. branch at refl (is_met cond a b) target (only target) rest (push [] tt))))
 
 -- two references are compared, or one with null
 pub if_ref_moves : (cond : RefCond) (target : ℕ) → MoveLemma (op.IfRef cond target)
@@ -160,5 +163,5 @@ switch_moves form default rows parts world tables set state frame others is fits
     let by = change_at at in
     let Goal : List Value → Type 0 = λ operands. MoveFits world tables (step.choose state frame others (λ key. unwrap_or (row_target key rows) default) operands) in
     takes_one at is_int [] by.change by.is by.reached Goal (λ x rest passes push.
-    whole_case world state.objects body (λ v. Goal (v ∷ rest)) x passes (λ key.
+    whole_case world state.objects body (λ v. Goal (v ∷ rest)) x passes (λ key fits_32.
     jump at (unwrap_or (row_target key rows) default) (chosen_among default (map (λ (row : SwitchRow). row.target) rows) (row_target key rows) (row_among key rows)) rest (push [] tt)))
