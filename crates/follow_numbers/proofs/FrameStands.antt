@@ -1,6 +1,5 @@
 -- In states that match, the youngest frame stands at an instruction of its body.
 use Rattle.std.proofs.Common.{◌≡◌, List, [], ◌∷◌, refl, ap, ◌∙◌}
-use Rattle.std.specs.List.{AllByRecursion}
 use Rattle.std.proofs.lemmas.List.Elements.{All-from_recursion, All-contains}
 use Rattle.body_form.specs.declared.body.Body.{Body}
 use Rattle.body_form.specs.declared.op.Op.{Op}
@@ -14,19 +13,14 @@ use Rattle.match_states.specs.Followed.{StatesMatch}
 use Rattle.match_states.specs.MatchedFrames.{FramesMatch}
 use Rattle.match_states.specs.Setting.{Setting, IsCompiled, table_for}
 use Rattle.match_code.proofs.MatchedCode.{found_body}
-use Rattle.follow_numbers.specs.WideCode.{IsInt, StandsAt}
-
--- the operands of the youngest frame are of 32 bits
-abbrev pub HasInts : List Frame → Type 0
-HasInts [] = Unit {0}
-HasInts (frame ∷ frames) = AllByRecursion IsInt frame.operands
+use Rattle.follow_numbers.specs.WideCode.{StandsAt}
 
 module _ (setting : Setting) (compiled : IsCompiled setting) (state : State) (other : split.State) (match : StatesMatch setting state other) where
-  stands_in : (frames : List Frame) (others : List SplitFrame) → state.frames ≡ frames → other.frames ≡ others → FramesFit setting.world setting.tables state.objects frames → FramesMatch setting frames others → HasInts frames
+  stands_in : (frames : List Frame) (others : List SplitFrame) → state.frames ≡ frames → other.frames ≡ others → FramesFit setting.world setting.tables state.objects frames → FramesMatch setting frames others
       → (instruction : Op) × StandsAt setting state other instruction
-  stands_in [] others is split_is fits frames ints = absurd fits
-  stands_in (frame ∷ rest) [] is split_is fits frames ints = absurd frames
-  stands_in (frame ∷ rest) (held ∷ others) is split_is fits frames ints =
+  stands_in [] others is split_is fits frames = absurd fits
+  stands_in (frame ∷ rest) [] is split_is fits frames = absurd frames
+  stands_in (frame ∷ rest) (held ∷ others) is split_is fits frames =
       let youngest = frames.0 in
       let found = found_body setting.world.bodies frame.method youngest.body youngest.found in
       let young = fits.0 in
@@ -46,9 +40,8 @@ module _ (setting : Setting) (compiled : IsCompiled setting) (state : State) (ot
           youngest = youngest;
           waiting = frames.1;
           at = there.1;
-          ints = ints;
         },
       )
 
-  pub youngest_stands_at : HasInts state.frames → (instruction : Op) × StandsAt setting state other instruction
-  youngest_stands_at ints = stands_in state.frames other.frames refl refl match.fits.frames match.frames ints
+  pub youngest_stands_at : (instruction : Op) × StandsAt setting state other instruction
+  youngest_stands_at = stands_in state.frames other.frames refl refl match.fits.frames match.frames

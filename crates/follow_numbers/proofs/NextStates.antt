@@ -1,5 +1,5 @@
 -- States that match behind an instruction, from its move on both machines.
-use Rattle.std.proofs.Common.{◌≡◌, ℕ, List, [], ◌∷◌, Option, Some, option_map, sym, ap, subst, ◌∙◌}
+use Rattle.std.proofs.Common.{◌≡◌, ℕ, List, [], ◌∷◌, Option, Some, option_map, refl, sym, ap, subst, ◌∙◌}
 use Rattle.std.specs.Option.{option_map_or}
 use Rattle.account.specs.Account.{Need, Does, Stuck, no_need}
 use Rattle.account.specs.RunLaws.{Alike, BothDo, Quietly, Rests, ComesTo, Matches, IsQuiet, IsLoud}
@@ -13,20 +13,28 @@ use Rattle.mote_model.specs.SplitMoves.{SplitMove}
 use Rattle.mote_model.specs.SplitState as split
 use Rattle.mote_model.specs.SplitStep as split_step
 use Rattle.typed_machine.specs.TypedMoves.{TypedMove, at_pc}
-use Rattle.typed_machine.specs.TypedState.{State, with_frames}
+use Rattle.typed_machine.specs.TypedState.{Frame, State, with_frames}
 use Rattle.typed_machine.specs.TypedStep.{move_of, move_in, move_among, move}
-use Rattle.typed_machine.specs.TypedWorld.{Placed, pc_after}
+use Rattle.typed_machine.specs.TypedWorld.{Placed, body_among, pc_after}
 use Rattle.type_safety.specs.Fitting.{FramesFit, StateFits}
 use Rattle.type_safety.specs.Safety.{MoveFits}
+use Rattle.type_safety.proofs.SafeMoves.{facts_keep_safe}
 use Rattle.match_states.specs.Followed.{StatesMatch, EndingsMatch}
 use Rattle.match_states.specs.MatchedFrames.{LocalsMatch, YoungestMatches}
-use Rattle.match_states.specs.Setting.{Setting, table_for, source_for, widths_for}
+use Rattle.match_states.specs.Setting.{Setting, table_for, source_for, widths_for, id_for}
 use Rattle.match_states.specs.TypedView.{machine}
 use Rattle.match_code.proofs.MatchedCode.{IsFound, found_body}
 use Rattle.match_views.proofs.NextFrames.{states_with_frames}
 use Rattle.follow_numbers.proofs.KnownOperands.{body_operands}
 use Rattle.follow_numbers.specs.WideCode.{value_refs, value_cells, IsWideCode, StandsAt, HasOperands}
 use Rattle.follow_numbers.proofs.WideOperands.{AreShaped, frame_shapes}
+
+-- a frame of a method stands for a typed one with these operands: its locals match
+pub record Carries (setting : Setting) (body : Body) (moved : Frame) (id : ℕ) (values : List Value) (last : SplitFrame) : Type 0 where
+  pub method : last.method ≡ id
+  pub locals : LocalsMatch setting body moved last.refs.locals last.cells.locals
+  pub refs : last.refs.operands ≡ value_refs values
+  pub cells : last.cells.operands ≡ value_cells values
 
 module _ {setting : Setting} {state : State} {other : split.State} {instruction : Op} (here : StandsAt setting state other instruction) where
   abbrev pub body_at : Body
@@ -65,39 +73,50 @@ module _ {setting : Setting} {state : State} {other : split.State} {instruction 
 
     -- the machine is not stuck
     pub is_unstuck : MoveFits setting.world setting.tables (move setting.world state)
-    is_unstuck = code.safe setting.world setting.tables code.compiled.typed state here.match.fits
+    is_unstuck = facts_keep_safe setting.world setting.tables code.compiled.typed state here.match.fits
 
-    module _ (need : Need) (to : ℕ) (values : List Value) (typed : move setting.world state ≡ Does need [] (with_frames state (at_pc here.frame to values ∷ here.frames))) where
-      pub next_fits : StateFits setting.world setting.tables (with_frames state (at_pc here.frame to values ∷ here.frames))
-      next_fits = subst (MoveFits setting.world setting.tables) typed is_unstuck
+    -- the frame that goes on may have other locals
+    module _ (need : Need) (moved : Frame) (same : moved.method ≡ here.frame.method) (to : ℕ) (values : List Value)
+        (typed : move setting.world state ≡ Does need [] (with_frames state (at_pc moved to values ∷ here.frames))) where
+      pub moved_fits : StateFits setting.world setting.tables (with_frames state (at_pc moved to values ∷ here.frames))
+      moved_fits = subst (MoveFits setting.world setting.tables) typed is_unstuck
 
-      pub next_shapes : AreShaped (shapes_at (widths_for setting body_at) (table_for setting body_at) to) values
-      next_shapes =
-          let fits = next_fits.frames.0 in
-          let known : table_for setting body_at to ≡ Some fits.types = ap (λ id. setting.tables id to) found_at.method ∙ fits.known in
+      pub moved_shapes : AreShaped (shapes_at (widths_for setting body_at) (table_for setting body_at) to) values
+      moved_shapes =
+          let fits = moved_fits.frames.0 in
+          let known : table_for setting body_at to ≡ Some fits.types = ap (λ id. setting.tables id to) (found_at.method ∙ sym same) ∙ fits.known in
           frame_shapes setting.world state.objects fits.body setting body_at (code.wide body_at found_at.of_set) to fits.types known
           (body_operands setting code.compiled body_at found_at.of_set to fits.types known) values fits.has.operands
 
-      module _ (last : SplitFrame) (carries : HasOperands here.split last values) (pc_is : last.pc ≡ offset_of (source_for setting body_at) to) where
-        next_youngest : YoungestMatches setting (at_pc here.frame to values) last
-        next_youngest =
+      module _ (last : SplitFrame) (carries : Carries setting body_at moved here.split.method values last) (pc_is : last.pc ≡ offset_of (source_for setting body_at) to) where
+        moved_youngest : YoungestMatches setting (at_pc moved to values) last
+        moved_youngest =
             let youngest = here.youngest in
-            let locals = youngest.locals in
-            let shapes = next_shapes in
-            let kept : LocalsMatch setting body_at here.frame last.refs.locals last.cells.locals =
-            subst (λ (refs : List Reference). LocalsMatch setting body_at here.frame refs last.cells.locals) (sym carries.ref_locals)
-            (subst (LocalsMatch setting body_at here.frame here.split.refs.locals) (sym carries.cell_locals) locals) in
+            let locals = carries.locals in
+            let shapes = moved_shapes in
             record {
               body = youngest.body;
-              found = youngest.found;
-              method = carries.method ∙ youngest.method;
+              found = ap (body_among setting.world.bodies) same ∙ youngest.found;
+              method = carries.method ∙ youngest.method ∙ ap (id_for setting) (sym same);
               pc = pc_is;
-              locals = record { refs_are = kept.refs_are; slotted = kept.slotted; count = kept.count; numbers = kept.numbers };
+              locals = record { refs_are = locals.refs_are; slotted = locals.slotted; count = locals.count; numbers = locals.numbers };
               operands = record { shaped = shapes.shaped; refs_are = carries.refs ∙ sym shapes.refs; cells_are = carries.cells ∙ sym shapes.cells };
             }
 
+        pub moved_match : StatesMatch setting (with_frames state (at_pc moved to values ∷ here.frames)) (split.with_frames other (last ∷ here.others))
+        moved_match = states_with_frames setting state other (at_pc moved to values ∷ here.frames) (last ∷ here.others) here.match moved_fits (moved_youngest, here.waiting)
+
+    module _ (need : Need) (to : ℕ) (values : List Value) (typed : move setting.world state ≡ Does need [] (with_frames state (at_pc here.frame to values ∷ here.frames))) where
+      pub next_shapes : AreShaped (shapes_at (widths_for setting body_at) (table_for setting body_at) to) values
+      next_shapes = moved_shapes need here.frame refl to values typed
+
+      module _ (last : SplitFrame) (has : HasOperands here.split last values) (pc_is : last.pc ≡ offset_of (source_for setting body_at) to) where
         pub next_match : StatesMatch setting (with_frames state (at_pc here.frame to values ∷ here.frames)) (split.with_frames other (last ∷ here.others))
-        next_match = states_with_frames setting state other (at_pc here.frame to values ∷ here.frames) (last ∷ here.others) here.match next_fits (next_youngest, here.waiting)
+        next_match =
+            let locals : LocalsMatch setting body_at here.frame last.refs.locals last.cells.locals =
+            subst (λ (refs : List Reference). LocalsMatch setting body_at here.frame refs last.cells.locals) (sym has.ref_locals)
+            (subst (LocalsMatch setting body_at here.frame here.split.refs.locals) (sym has.cell_locals) here.youngest.locals) in
+            moved_match need here.frame refl to values typed last (record { method = has.method; locals = locals; refs = has.refs; cells = has.cells }) pc_is
 
         -- both machines make the same move, the split one after some that are quiet
         pub goes_to : (from : split.State) → Quietly (split_step.machine setting.image) other from → split_step.move setting.image from ≡ Does need [] (split.with_frames other (last ∷ here.others))

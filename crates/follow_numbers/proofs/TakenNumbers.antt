@@ -1,8 +1,7 @@
 -- Whole numbers that are taken off the operands of both machines.
-use Rattle.std.proofs.Common.{◌≡◌, ℕ, ℤ, Bool, true, FitsSigned, nat_le, if◌then◌else◌, List, [], ◌∷◌, length, reverse, take, drop, refl, ap, subst, ◌∙◌, arith}
+use Rattle.std.proofs.Common.{◌≡◌, ℕ, ℤ, FitsSigned, List, [], ◌∷◌, refl, ap, subst, ◌∙◌}
 use Rattle.std.specs.Int.{w32}
 use Rattle.std.specs.List.{AllByRecursion}
-use Rattle.std.proofs.lemmas.Bool.Decides.{nat_tests}
 use Rattle.cell_num.specs.Cells.{low_cell, high_cell}
 use Rattle.cell_num.proofs.CellLaws.{joined_cells-split}
 use Rattle.image_instr.specs.declared.insn.Width.TheVariants as width
@@ -12,24 +11,18 @@ use Rattle.jvm_model.specs.ImageExpansion.{top_of, width_of}
 use Rattle.jvm_model.specs.State.{Value, Whole, Null, Name}
 use Rattle.jvm_model.specs.WidthsShapes.{shapes_at}
 use Rattle.mote_model.specs.State.{Frame as SplitFrame}
-use Rattle.mote_model.specs.SplitMoves.{SplitMove, with_cells, number_of, take_cells, take_number}
+use Rattle.mote_model.specs.SplitMoves.{SplitMove, with_cells, number_of, take_number}
 use Rattle.mote_model.specs.SplitState as split
 use Rattle.typed_machine.specs.TypedMoves.{TypedMove}
 use Rattle.typed_machine.specs.TypedState.{State}
 use Rattle.typed_machine.specs.TypedStep.{move}
 use Rattle.type_safety.specs.Safety.{MoveFits}
 use Rattle.match_states.specs.Setting.{Setting, table_for, widths_for}
+use Rattle.match_code.proofs.QuietInsns.{take_two}
 use Rattle.follow_numbers.specs.WideCode.{value_refs, value_cells, IsInt, IsWideCode, StandsAt}
 use Rattle.follow_numbers.proofs.NextStates.{body_at, refs_at, cells_at, operands_at, is_unstuck}
 
 -- ---- the split machine
-
-take_two : (frame : SplitFrame) (high low : ℕ) (cells : List ℕ) → frame.cells.operands ≡ high ∷ low ∷ cells → (use_them : List ℕ → SplitFrame → SplitMove)
-    → take_cells 2 frame use_them ≡ use_them (low ∷ high ∷ []) (with_cells frame cells)
-take_two frame high low cells has use_them =
-    let enough : nat_le 2 (length (high ∷ low ∷ cells)) ≡ true = grind (arith, nat_tests) in
-    ap (λ (operands : List ℕ). if nat_le 2 (length operands) then use_them (reverse (take 2 operands)) (with_cells frame (drop 2 operands)) else Stuck) has
-    ∙ ap (λ (b : Bool). if b then use_them (low ∷ high ∷ []) (with_cells frame cells) else Stuck) enough
 
 -- a number of two cells is taken as it is
 pub take_int : (frame : SplitFrame) (number : ℤ) (cells : List ℕ) → FitsSigned w32 number → frame.cells.operands ≡ high_cell number ∷ low_cell number ∷ cells → (use_it : ℤ → SplitFrame → SplitMove)
@@ -85,7 +78,7 @@ module _ {setting : Setting} {state : State} {other : split.State} {instruction 
     cells_of = cells_at here code ∙ ap value_cells are
 
     pub ints_of : AllByRecursion IsInt operands
-    ints_of = subst (λ values. AllByRecursion IsInt values) are here.ints
+    ints_of = subst (λ values. AllByRecursion IsInt values) are (operands_at here code).ints
 
   -- a number at the top has two cells
   pub top_is_two : (number : ℤ) (below : List Value) → here.frame.operands ≡ Whole number ∷ below

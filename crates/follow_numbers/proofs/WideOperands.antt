@@ -1,5 +1,6 @@
 -- Operands that fit a frame of types are of its shapes, and stand in both halves as their values do, in wide bodies.
-use Rattle.std.proofs.Common.{◌≡◌, inl, inr, ℕ, ℤ, true, List, [], ◌∷◌, ◌++◌, length, Some, refl, sym, ap, subst, ◌∙◌}
+use Rattle.std.proofs.Common.{◌≡◌, inl, inr, ℕ, ℤ, true, List, [], ◌∷◌, ◌++◌, length, Some, refl, sym, ap, subst, ◌∙◌, FitsSigned}
+use Rattle.std.specs.Int.{w32}
 use Rattle.std.specs.List.{AllByRecursion}
 use Rattle.std.specs.Option.{option_map_or}
 use Rattle.image_instr.specs.declared.insn.Kind.{Kind}
@@ -20,32 +21,34 @@ use Rattle.typed_machine.specs.TypedWorld.{World}
 use Rattle.type_safety.specs.Fitting.{ValueFits}
 use Rattle.match_states.specs.MatchedFrames.{IsOfShape, operand_refs, operand_cells}
 use Rattle.match_states.specs.Setting.{Setting, IsWide, table_for, widths_for}
-use Rattle.follow_numbers.specs.WideCode.{refs_of_value, cells_of_value, value_refs, value_cells, MayBeOperand}
+use Rattle.follow_numbers.specs.WideCode.{refs_of_value, cells_of_value, value_refs, value_cells, IsInt, MayBeOperand}
 
 -- a value is of a shape, and stands in both halves as its shape says
 record HasShape (shape : Kind) (value : Value) : Type 0 where
   pub is : IsOfShape shape value
+  pub int : IsInt value
   pub two : (number : ℤ) → value ≡ Whole number → shape ≡ kind.Two
   pub refs : (shapes : List Kind) (values : List Value) → operand_refs (shape ∷ shapes) (value ∷ values) ≡ refs_of_value value ++ operand_refs shapes values
   pub cells : (shapes : List Kind) (values : List Value) → operand_cells (shape ∷ shapes) (value ∷ values) ≡ cells_of_value value ++ operand_cells shapes values
 
-whole_two : (value : Value) (n : ℤ) → value ≡ Whole n → HasShape kind.Two value
+whole_two : (value : Value) (n : ℤ) → value ≡ Whole n → FitsSigned w32 n → HasShape kind.Two value
 unfolding operand_refs operand_cells
-whole_two value n e =
+whole_two value n e fits =
     subst (HasShape kind.Two) (sym e)
-    (record { is = (n, refl); two = λ number e. refl; refs = λ shapes values. refl; cells = λ shapes values. refl })
+    (record { is = (n, refl, fits); int = fits; two = λ number e. refl; refs = λ shapes values. refl; cells = λ shapes values. refl })
 
 null_ref : (value : Value) → value ≡ Null → HasShape kind.Ref value
 unfolding operand_refs operand_cells
-null_ref value e = subst (HasShape kind.Ref) (sym e) (record { is = inl refl; two = λ number e. cc; refs = λ shapes values. refl; cells = λ shapes values. refl })
+null_ref value e = subst (HasShape kind.Ref) (sym e) (record { is = inl refl; int = tt; two = λ number e. cc; refs = λ shapes values. refl; cells = λ shapes values. refl })
 
 name_ref : (value : Value) (name : ℕ) → value ≡ Name name → HasShape kind.Ref value
 unfolding operand_refs operand_cells
-name_ref value name e = subst (HasShape kind.Ref) (sym e) (record { is = inr (name, refl); two = λ number e. cc; refs = λ shapes values. refl; cells = λ shapes values. refl })
+name_ref value name e = subst (HasShape kind.Ref) (sym e) (record { is = inr (name, refl); int = tt; two = λ number e. cc; refs = λ shapes values. refl; cells = λ shapes values. refl })
 
 -- operands of shapes that stand in both halves as their values do
 pub record AreShaped (shapes : List Kind) (values : List Value) : Type 0 where
   pub shaped : AreEach IsOfShape shapes values
+  pub ints : AllByRecursion IsInt values
   pub refs : operand_refs shapes values ≡ value_refs values
   pub cells : operand_cells shapes values ≡ value_cells values
   -- a whole number at the top has two cells
@@ -53,12 +56,12 @@ pub record AreShaped (shapes : List Kind) (values : List Value) : Type 0 where
 
 no_values : AreShaped [] []
 unfolding operand_refs operand_cells
-no_values = record { shaped = tt; refs = refl; cells = refl; top = λ number below e. cc }
+no_values = record { shaped = tt; ints = tt; refs = refl; cells = refl; top = λ number below e. cc }
 
 module _ (world : World) (objects : List Object) (body : Body) where
   one_fits : (of : Width) → of ≡ width.Two → (type : VType) → MayBeOperand type → (value : Value) → ValueFits world objects body value type → HasShape (shape_of of type) value
   one_fits of two known.Top may value fits = absurd cc
-  one_fits of two known.Int may value fits = subst (λ (w : Width). HasShape (shape_of w known.Int) value) (sym two) (whole_two value fits.0 fits.1)
+  one_fits of two known.Int may value fits = subst (λ (w : Width). HasShape (shape_of w known.Int) value) (sym two) (whole_two value fits.0 fits.1 fits.2)
   one_fits of two known.Null may value fits = null_ref value fits
   one_fits of two (known.Ref type) may value (inl null) = null_ref value null
   one_fits of two (known.Ref type) may value (inr names) = name_ref value names.name names.is
@@ -76,6 +79,7 @@ module _ (world : World) (objects : List Object) (body : Body) where
       let rest = fit_shapes of two types may.1 values fits.1 in
       record {
         shaped = (one.is, rest.shaped);
+        ints = (one.int, rest.ints);
         refs = one.refs (shapes_of of types) values ∙ ap (λ (l : List Reference). refs_of_value value ++ l) rest.refs;
         cells = one.cells (shapes_of of types) values ∙ ap (λ (l : List ℕ). cells_of_value value ++ l) rest.cells;
         top = λ number below e. one.two number cc;

@@ -1,7 +1,7 @@
 -- Code whose whole numbers each have two cells, states that match there, and what values stand for in both halves.
 use Rattle.std.specs.Prelude.{◌≡◌, ℕ, true, List, [], ◌∷◌, ◌++◌, Some, FitsSigned}
 use Rattle.std.specs.Int.{w32}
-use Rattle.std.specs.List.{AllByRecursion, Contains}
+use Rattle.std.specs.List.{Contains}
 use Rattle.cell_num.specs.Cells.{low_cell, high_cell}
 use Rattle.body_form.specs.declared.body.Body.{Body}
 use Rattle.body_form.specs.declared.op.Op.{Op}
@@ -13,7 +13,6 @@ use Rattle.jvm_model.specs.TypesRules.{op_at}
 use Rattle.mote_model.specs.State.{Reference, Frame as SplitFrame}
 use Rattle.mote_model.specs.SplitState.{State as SplitState}
 use Rattle.typed_machine.specs.TypedState.{Frame, State}
-use Rattle.type_safety.specs.Safety.{FactsKeepSafe}
 use Rattle.match_states.specs.Followed.{StatesMatch}
 use Rattle.match_states.specs.MatchedFrames.{reference_of, YoungestMatches, WaitingMatches}
 use Rattle.match_states.specs.Setting.{Setting, IsCompiled, IsWide}
@@ -52,13 +51,12 @@ MayBeOperand type = may_be_operand type ≡ true
 -- Typed code with its image, whose bodies are wide and of machine instructions with fitting operands.
 pub record IsWideCode (setting : Setting) : Type 0 where
   pub compiled : IsCompiled setting
-  pub safe : FactsKeepSafe
   pub wide : (body : Body) → Contains setting.world.bodies body → IsWide setting body
   pub insns : (body : Body) → Contains setting.world.bodies body → AreInsns setting body
 
 -- ---- where frames stand
 
--- The states match, and the youngest frame stands at an instruction, over operands of 32 bits.
+-- the states match, and the youngest frame stands at an instruction
 pub record StandsAt (setting : Setting) (state : State) (other : SplitState) (instruction : Op) : Type 0 where
   pub match : StatesMatch setting state other
   pub frame : Frame
@@ -70,7 +68,6 @@ pub record StandsAt (setting : Setting) (state : State) (other : SplitState) (in
   pub youngest : YoungestMatches setting frame split
   pub waiting : AreEach (WaitingMatches setting) frames others
   pub at : op_at youngest.body.ops frame.pc ≡ Some instruction
-  pub ints : AllByRecursion IsInt frame.operands
 
 -- a frame has these values as operands, and the method and the locals of another one
 pub record HasOperands (frame last : SplitFrame) (values : List Value) : Type 0 where

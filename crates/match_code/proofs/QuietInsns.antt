@@ -20,14 +20,14 @@ use Rattle.match_code.proofs.QuietMoves.{GoesOver}
 
 -- ---- cells that are taken
 
-take_one : (frame : Frame) (cell : ℕ) (cells : List ℕ) → frame.cells.operands ≡ cell ∷ cells → (use_them : List ℕ → Frame → SplitMove)
+pub take_one : (frame : Frame) (cell : ℕ) (cells : List ℕ) → frame.cells.operands ≡ cell ∷ cells → (use_them : List ℕ → Frame → SplitMove)
     → take_cells 1 frame use_them ≡ use_them (cell ∷ []) (with_cells frame cells)
 take_one frame cell cells has use_them =
     let enough : nat_le 1 (length (cell ∷ cells)) ≡ true = grind (arith, nat_tests) in
     ap (λ (operands : List ℕ). if nat_le 1 (length operands) then use_them (reverse (take 1 operands)) (with_cells frame (drop 1 operands)) else Stuck) has
     ∙ ap (λ (b : Bool). if b then use_them (cell ∷ []) (with_cells frame cells) else Stuck) enough
 
-take_two : (frame : Frame) (high low : ℕ) (cells : List ℕ) → frame.cells.operands ≡ high ∷ low ∷ cells → (use_them : List ℕ → Frame → SplitMove)
+pub take_two : (frame : Frame) (high low : ℕ) (cells : List ℕ) → frame.cells.operands ≡ high ∷ low ∷ cells → (use_them : List ℕ → Frame → SplitMove)
     → take_cells 2 frame use_them ≡ use_them (low ∷ high ∷ []) (with_cells frame cells)
 take_two frame high low cells has use_them =
     let enough : nat_le 2 (length (high ∷ low ∷ cells)) ≡ true = grind (arith, nat_tests) in
