@@ -1,5 +1,5 @@
 -- What is thrown is caught by the same frame of both machines: the youngest one, or one that waits; or by none.
-use Rattle.std.proofs.Common.{◌≡◌, ℕ, List, [], ◌∷◌, Option, Some, None, option_map, option_and_then, refl, sym, ap, subst}
+use Rattle.std.proofs.Common.{◌≡◌, ℕ, List, [], ◌∷◌, Option, Some, None, option_map, option_and_then, refl, sym, ap, subst, ◌∙◌}
 use Rattle.std.specs.List.{AllByRecursion, Contains}
 use Rattle.std.specs.Option.{option_map_or}
 use Rattle.image_form.specs.declared.record.HandlerEntry.{HandlerEntry}
@@ -19,12 +19,12 @@ use Rattle.typed_machine.specs.TypedMoves as typed
 use Rattle.typed_machine.specs.TypedMoves.{at_pc, first_handler}
 use Rattle.typed_machine.specs.TypedState.{Frame}
 use Rattle.typed_machine.specs.TypedWorld.{body_among, guards_at}
-use Rattle.match_states.specs.MatchedFrames.{LocalsMatch, YoungestMatches, WaitingMatches}
+use Rattle.match_states.specs.MatchedFrames.{LocalsMatch, WaitingMatches}
 use Rattle.match_states.specs.Setting.{Setting, source_for, id_for}
 use Rattle.match_code.specs.Standing.{StandsInExpansion}
 use Rattle.match_code.proofs.CodeHandlers.{CatchesAlike, handler_here}
 use Rattle.match_code.proofs.CodeMoves.{insn_here}
-use Rattle.match_code.proofs.MatchedCode.{cuts_at, waiting_stands}
+use Rattle.match_code.proofs.MatchedCode.{found_body, cuts_at, waiting_stands}
 use Rattle.follow_numbers.specs.WideCode.{IsWideCode}
 
 -- the rows of all bodies catch what is of a type as they do what is of a class
@@ -55,15 +55,17 @@ pub data CaughtAlike (setting : Setting) (name : ℕ) : Option (List Frame) → 
       → CaughtAlike setting name (Some (at_pc frame target (Name name ∷ []) ∷ frames)) (Some (split.at_handler other row name ∷ others))
 
 module _ (setting : Setting) (code : IsWideCode setting) (type class : ℕ) (catch : AllCatchAlike setting type class) where
-  youngest_searched : (frame : Frame) (other : SplitFrame) (youngest : YoungestMatches setting frame other) (instruction : Op) (insn : MInsn) (rows : List SwitchRow) (rest : List Emitted)
-      → StandsInExpansion setting youngest.body other frame.pc instruction [] insn rows rest → IsInsn insn rows → Searched setting type class frame other
-  youngest_searched frame other youngest instruction insn rows rest stands is =
+  -- a frame that stands behind the first of the machine instructions of an expansion
+  searched_at : (frame : Frame) (other : SplitFrame) (body : Body) → body_among setting.world.bodies frame.method ≡ Some body → LocalsMatch setting body frame other.refs.locals other.cells.locals
+      → (instruction : Op) (first : List Emitted) (insn : MInsn) (rows : List SwitchRow) (rest : List Emitted) → StandsInExpansion setting body other frame.pc instruction first insn rows rest → IsInsn insn rows
+      → Searched setting type class frame other
+  searched_at frame other body found locals instruction first insn rows rest stands is =
       record {
-        body = youngest.body;
-        found = youngest.found;
-        method = youngest.method;
-        locals = youngest.locals;
-        row = handler_here setting code.compiled youngest.body other frame.pc instruction [] insn rows rest stands is type class (catch youngest.body stands.of_set);
+        body = body;
+        found = found;
+        method = stands.method ∙ ap (id_for setting) (found_body setting.world.bodies frame.method body found).method;
+        locals = locals;
+        row = handler_here setting code.compiled body other frame.pc instruction first insn rows rest stands is type class (catch body stands.of_set);
       }
 
   waiting_searched : (frame : Frame) (other : SplitFrame) → WaitingMatches setting frame other → Searched setting type class frame other
@@ -71,13 +73,7 @@ module _ (setting : Setting) (code : IsWideCode setting) (type class : ℕ) (cat
       let at = waiting_stands setting frame other waiting in
       let cuts = cuts_at setting waiting.body frame.pc waiting.used in
       let is = insn_here setting waiting.body other frame.pc waiting.instruction cuts at.0.insn [] (code.insns waiting.body at.1.of_set) at.0.rest at.1 in
-      record {
-        body = waiting.body;
-        found = waiting.found;
-        method = waiting.method;
-        locals = waiting.locals;
-        row = handler_here setting code.compiled waiting.body other frame.pc waiting.instruction cuts at.0.insn [] at.0.rest at.1 is type class (catch waiting.body at.1.of_set);
-      }
+      searched_at frame other waiting.body waiting.found waiting.locals waiting.instruction cuts at.0.insn [] at.0.rest at.1 is
 
   module _ (name : ℕ) where
     module _ (frame : Frame) (frames : List Frame) (other : SplitFrame) (others : List SplitFrame) (searched : Searched setting type class frame other) where
@@ -107,9 +103,9 @@ module _ (setting : Setting) (code : IsWideCode setting) (type class : ℕ) (cat
     caught_waiting (frame ∷ frames) (other ∷ others) waiting =
         caught_first frame frames other others (waiting_searched frame other waiting.0) waiting.1 (caught_waiting frames others waiting.1)
 
-    -- from the youngest frame on
-    pub caught_alike : (frame : Frame) (frames : List Frame) (other : SplitFrame) (others : List SplitFrame) (youngest : YoungestMatches setting frame other) (instruction : Op) (insn : MInsn) (rows : List SwitchRow) (rest : List Emitted)
-        → StandsInExpansion setting youngest.body other frame.pc instruction [] insn rows rest → IsInsn insn rows → AreEach (WaitingMatches setting) frames others
-        → CaughtAlike setting name (typed.caught setting.world class name (frame ∷ frames)) (split.caught setting.image type name (other ∷ others))
-    caught_alike frame frames other others youngest instruction insn rows rest stands is waiting =
-        caught_first frame frames other others (youngest_searched frame other youngest instruction insn rows rest stands is) waiting (caught_waiting frames others waiting)
+    -- from the youngest frame on, which stands behind the first of the machine instructions of an expansion
+    pub caught_behind : (frame : Frame) (frames : List Frame) (other : SplitFrame) (others : List SplitFrame) (body : Body) → body_among setting.world.bodies frame.method ≡ Some body → LocalsMatch setting body frame other.refs.locals other.cells.locals
+        → (instruction : Op) (first : List Emitted) (insn : MInsn) (rows : List SwitchRow) (rest : List Emitted) → StandsInExpansion setting body other frame.pc instruction first insn rows rest → IsInsn insn rows
+        → AreEach (WaitingMatches setting) frames others → CaughtAlike setting name (typed.caught setting.world class name (frame ∷ frames)) (split.caught setting.image type name (other ∷ others))
+    caught_behind frame frames other others body found locals instruction first insn rows rest stands is waiting =
+        caught_first frame frames other others (searched_at frame other body found locals instruction first insn rows rest stands is) waiting (caught_waiting frames others waiting)
