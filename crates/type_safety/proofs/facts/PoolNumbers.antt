@@ -12,7 +12,6 @@ use Rattle.class_pool.specs.declared.refusal.PoolRefusal.TheVariants.{BadTag, Ba
 use Rattle.class_pool.specs.Pool.{Slots, entry_at as slot_entry, integer_of, integer_at, EachEntry}
 use Rattle.class_pool.specs.PoolReading.{u2_at, slice_at, size_at, text_of, entry_of, body_at, tag_width, tag_of_byte, tagged_at, entry_at, is_first_of_two, slot_at, slots_at, first_unlinked, checked, pool_at, pool_from}
 use Rattle.class_pool.proofs.constant_pool.Parts.{tag_of, sample}
-use Rattle.class_file.specs.declared.refusal.ReadRefusal.{ReadRefusal}
 use Rattle.class_file.specs.ReadingClass.{after_pool, of_pool, pool_at as class_pool_at}
 
 -- an entry that is a whole number has 32 bits

@@ -1,5 +1,5 @@
 -- What instructions make of numbers of 32 bits are such numbers.
-use Rattle.std.proofs.Common.{◌≡◌, ℕ, ℤ, zero, suc, pos, negsuc, ◌%◌, ◌<◌, List, [], ◌∷◌, length, replicate, Option, Some, None, IfSome, refl, subst, arith, FitsSigned}
+use Rattle.std.proofs.Common.{◌≡◌, ℕ, ℤ, pos, negsuc, ◌%◌, ◌<◌, [], ◌∷◌, Option, Some, None, IfSome, subst, arith, FitsSigned}
 use Rattle.std.proofs.Math.Nat.{mod-lt}
 use Rattle.std.proofs.lemmas.Int.{ints, SFits-int_wrap}
 use Rattle.std.specs.Int.{w8, w16, w32, cast_unsigned, int_wrap}
