@@ -1,3 +1,5 @@
+-- the keys of switches are in order
+pub mod SwitchKeys
 -- the whole numbers of constant pools have 32 bits
 pub mod PoolNumbers
 -- what is above a class by each way up, and where lookups that go up end

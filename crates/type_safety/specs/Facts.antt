@@ -1,8 +1,8 @@
--- What typed code stands on in a set, beside its types: where control goes there are instructions, constants have 32
--- bits, and what instructions name is there, of the type that they say.
-use Rattle.std.specs.Prelude.{◌≡◌, ◌⊎◌, ℕ, ◌≤◌, Bool, true, false, List, [], ◌∷◌, Option, Some, None, FitsSigned}
-use Rattle.std.specs.Int.{w32}
-use Rattle.std.specs.List.{Contains}
+-- What typed code stands on in a set, beside its types: where control goes there are instructions, their numbers are of
+-- their types, and what they name is there, of the type that they say.
+use Rattle.std.specs.Prelude.{◌≡◌, ◌⊎◌, ℕ, ℤ, pos, ◌+ℤ◌, ◌<ℤ◌, ◌≤ℤ◌, ◌^◌, ◌≤◌, Bool, true, false, List, [], ◌∷◌, length, Option, Some, None, FitsSigned}
+use Rattle.std.specs.Int.{w16, w32}
+use Rattle.std.specs.List.{AllByRecursion, Contains}
 use Rattle.std.specs.Str.{bytes_eq}
 use Rattle.library.specs.declared.natives.Native.{Native}
 use Rattle.library.specs.declared.natives.Native.TheVariants as native
@@ -16,6 +16,9 @@ use Rattle.class_tree.specs.Fits.{fits}
 use Rattle.class_tree.specs.Members.{Declaration}
 use Rattle.class_tree.specs.Set.{IsClass, flags_of}
 use Rattle.class_tree.specs.Subtypes.{class_type}
+use Rattle.insn_form.specs.declared.SwitchForm.{SwitchForm}
+use Rattle.insn_form.specs.declared.SwitchForm.TheVariants as switch
+use Rattle.insn_form.specs.declared.SwitchRow.{SwitchRow}
 use Rattle.body_form.specs.declared.body.Body.{Body}
 use Rattle.body_form.specs.declared.body.Guard.{Guard}
 use Rattle.body_form.specs.declared.op.FieldUse.{FieldUse}
@@ -41,12 +44,35 @@ pub record Leads (body : Body) (pc : ℕ) (instruction : Op) : Type 0 where
   -- one that goes on and is not the last leads to the next
   pub next : goes_on instruction ≡ true → is_last body.ops pc ≡ false → (to : ℕ) × (pc_after body.ops pc ≡ Some to) × Contains (successors body.ops pc) to
 
--- ---- constants
+-- ---- numbers
 
 -- a constant that is a number has 32 bits
 abbrev pub ConstantFits : Literal → Type 0
 ConstantFits (literal.Int number) = FitsSigned w32 number
 ConstantFits literal.Null = Unit {0}
+
+-- a key is above the one before it, where there is one
+abbrev pub IsAbove : Option ℤ → ℤ → Type 0
+IsAbove None key = Unit {0}
+IsAbove (Some before) key = before <ℤ key
+
+abbrev pub KeysRise : Option ℤ → List SwitchRow → Type 0
+KeysRise before [] = Unit {0}
+KeysRise before (row ∷ rows) = IsAbove before row.key × KeysRise (Some row.key) rows
+
+-- the keys are this one and those after it, one by one
+abbrev pub KeysFollow : ℤ → List SwitchRow → Type 0
+KeysFollow key [] = Unit {0}
+KeysFollow key (row ∷ rows) = (row.key ≡ key) × KeysFollow (key +ℤ pos 1) rows
+
+-- the keys of a switch rise; a table has one at least, and its keys follow one another
+abbrev pub KeysInOrder : SwitchForm → List SwitchRow → Type 0
+KeysInOrder switch.Lookup rows = KeysRise None rows
+KeysInOrder switch.Table [] = ⊥
+KeysInOrder switch.Table (row ∷ rows) = KeysFollow row.key (row ∷ rows) × ((row.key +ℤ pos (length (row ∷ rows))) ≤ℤ pos (2 ^ 31))
+
+abbrev pub SwitchFits : SwitchForm → List SwitchRow → Type 0
+SwitchFits form rows = AllByRecursion (λ row. FitsSigned w32 row.key) rows × KeysInOrder form rows
 
 -- ---- members
 
@@ -142,9 +168,11 @@ pub record IsSpecial (world : World) (own : ℕ) (used : MethodUse) : Type 0 whe
 abbrev pub NoArray : World → MethodUse → Type 0
 NoArray world used = (array : TypeRef) → fits world.files (known.Ref array) (class_type used.class) ≡ true → array.dims ≡ 0
 
--- what an instruction of a body of a class names is there, and its constant has 32 bits
+-- what an instruction of a body of a class names is there, and its numbers are of their types
 abbrev pub Named : World → ℕ → Op → Type 0
 Named world own (op.Const constant) = ConstantFits constant
+Named world own (op.Inc local amount) = FitsSigned w16 amount
+Named world own (op.Switch form default rows) = SwitchFits form rows
 Named world own (op.GetStatic used) = IsStaticField world used
 Named world own (op.PutStatic used) = IsStaticField world used
 Named world own (op.GetField used) = IsInstanceField world used

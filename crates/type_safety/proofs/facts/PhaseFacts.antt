@@ -50,6 +50,7 @@ use Rattle.type_safety.proofs.facts.ReadRules.{MethodRules, HasCode}
 use Rattle.type_safety.proofs.facts.CodeRead.{FitsMethod, IsRead, files_read}
 use Rattle.type_safety.proofs.facts.PoolNumbers.{IntegerFits, integer_fits}
 use Rattle.type_safety.proofs.facts.CodedBodies.{IsBodyOf, body_of}
+use Rattle.type_safety.proofs.facts.SwitchKeys.{switch_fits}
 use Rattle.type_safety.proofs.facts.Control.{same_op, op_there}
 use Rattle.type_safety.proofs.facts.CodeStanding.{stands_of_set, stays_within}
 use Rattle.type_safety.proofs.facts.Declared.{file_at}
@@ -145,7 +146,7 @@ module _ (world : World) (gathers : Gathers world.files None) (rank : ℕ → �
   op_named from pool own_class entries (insns.Push number) found constructed e numbers = subst (Named world from) (same_op (op.Const (literal.Int number)) found e) numbers
   op_named from pool own_class entries (insns.Load kind local) found constructed e numbers = subst (Named world from) (same_op (op.Load kind local) found e) tt
   op_named from pool own_class entries (insns.Store kind local) found constructed e numbers = subst (Named world from) (same_op (op.Store kind local) found e) tt
-  op_named from pool own_class entries (insns.Inc local amount) found constructed e numbers = subst (Named world from) (same_op (op.Inc local amount) found e) tt
+  op_named from pool own_class entries (insns.Inc local amount) found constructed e numbers = subst (Named world from) (same_op (op.Inc local amount) found e) numbers
   op_named from pool own_class entries (insns.Stack form) found constructed e numbers = subst (Named world from) (same_op (op.Stack form) found e) tt
   op_named from pool own_class entries (insns.Bin operation) found constructed e numbers = subst (Named world from) (same_op (op.Bin operation) found e) tt
   op_named from pool own_class entries insns.Neg found constructed e numbers = subst (Named world from) (same_op (op.Unary unary.Neg) found e) tt
@@ -154,7 +155,7 @@ module _ (world : World) (gathers : Gathers world.files None) (rank : ℕ → �
   op_named from pool own_class entries (insns.IfCmp cond target) found constructed e numbers = subst (Named world from) (same_op (op.IfCmp cond target) found e) tt
   op_named from pool own_class entries (insns.IfRef cond target) found constructed e numbers = subst (Named world from) (same_op (op.IfRef cond target) found e) tt
   op_named from pool own_class entries (insns.Goto target) found constructed e numbers = subst (Named world from) (same_op (op.Goto target) found e) tt
-  op_named from pool own_class entries (insns.Switch form default rows) found constructed e numbers = subst (Named world from) (same_op (op.Switch form default rows) found e) tt
+  op_named from pool own_class entries (insns.Switch form default rows) found constructed e numbers = subst (Named world from) (same_op (op.Switch form default rows) found e) (switch_fits form rows numbers)
   op_named from pool own_class entries (insns.Return kind) found constructed e numbers = subst (Named world from) (same_op (op.Return kind) found e) tt
   op_named from pool own_class entries insns.ArrayLength found constructed e numbers = subst (Named world from) (same_op (op.ArrayLength) found e) tt
   op_named from pool own_class entries (insns.ArrayLoad kind) found constructed e numbers = subst (Named world from) (same_op (op.ArrayLoad kind) found e) tt
