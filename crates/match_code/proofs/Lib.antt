@@ -20,3 +20,7 @@ pub mod QuietInsns
 pub mod QuietRuns
 -- what extends parameters at entry
 pub mod QuietEntry
+-- the rows of switches keep to their limits
+pub mod SwitchRows
+-- emitted instructions whose numbers are of their types are machine instructions
+pub mod EmittedInsns

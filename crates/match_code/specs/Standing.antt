@@ -3,7 +3,7 @@ use Rattle.std.specs.Prelude.{◌≡◌, ℕ, ◌+◌, List, ◌∷◌, ◌++◌
 use Rattle.std.specs.List.{AllByRecursion, Contains, flat_map}
 use Rattle.image_instr.specs.declared.insn.MInsn.{MInsn}
 use Rattle.image_instr.specs.declared.insn.SwitchRow.{SwitchRow}
-use Rattle.image_instr.specs.Insn.{IsInsn}
+use Rattle.image_instr.specs.Insn.{HasRanges, HasRowRanges, IsInsn}
 use Rattle.body_form.specs.declared.body.Body.{Body}
 use Rattle.body_form.specs.declared.op.Op.{Op}
 use Rattle.jvm_model.specs.ImageEmission.{expansion_at, offset_of}
@@ -67,3 +67,12 @@ IsEmittedInsn emitted = IsInsn emitted.0 emitted.1
 pub record AreInsns (setting : Setting) (body : Body) : Type 0 where
   pub expansions : (pc : ℕ) (instruction : Op) → op_at body.ops pc ≡ Some instruction → AllByRecursion IsEmittedInsn (emitted_at setting body pc instruction)
   pub fills : AllByRecursion IsEmittedInsn (fills_for setting body)
+
+-- the numbers of a machine instruction and of its rows are of their types
+abbrev pub IsInRange : Emitted → Type 0
+IsInRange emitted = HasRanges emitted.0 × AllByRecursion HasRowRanges emitted.1
+
+-- those of a body's code are
+pub record AreInRange (setting : Setting) (body : Body) : Type 0 where
+  pub expansions : (pc : ℕ) (instruction : Op) → op_at body.ops pc ≡ Some instruction → AllByRecursion IsInRange (emitted_at setting body pc instruction)
+  pub fills : AllByRecursion IsInRange (fills_for setting body)
