@@ -1,0 +1,2 @@
+-- states that match behind an instruction, whose locals may change
+pub mod MovedFrames
