@@ -10,3 +10,15 @@ pub mod OperandMoves
 pub mod Halves
 -- the stack forms
 pub mod StackForms
+-- rooms of locals, one after the other
+pub mod LocalRooms
+-- two cells that are written in a list
+pub mod WrittenCells
+-- lists of locals without one twice, and their slots
+pub mod DistinctLocals
+-- lists with one item set
+pub mod SetLocals
+-- locals of wide bodies, which have cells apart
+pub mod WideLocals
+-- slots of reference locals
+pub mod ReferenceSlots
