@@ -22,3 +22,11 @@ pub mod SetLocals
 pub mod WideLocals
 -- slots of reference locals
 pub mod ReferenceSlots
+-- the rules of loads and stores
+pub mod LocalRules
+-- frames with one local set
+pub mod SetFrames
+-- locals that are set to whole numbers
+pub mod NumberLocals
+-- loads of whole numbers
+pub mod LoadedNumbers
