@@ -30,3 +30,5 @@ pub mod SetFrames
 pub mod NumberLocals
 -- loads of whole numbers
 pub mod LoadedNumbers
+-- stores of whole numbers
+pub mod StoredNumbers
