@@ -32,3 +32,5 @@ pub mod NumberLocals
 pub mod LoadedNumbers
 -- stores of whole numbers
 pub mod StoredNumbers
+-- stores of references
+pub mod StoredReferences
