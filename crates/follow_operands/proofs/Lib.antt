@@ -28,6 +28,14 @@ pub mod LocalRules
 pub mod SetFrames
 -- locals that are set to whole numbers
 pub mod NumberLocals
+-- what is read of lists
+pub mod ReadLists
+-- rules of types that set a local
+pub mod StoredTypes
+-- types of references, whose locals have slots
+pub mod SlottedTypes
+-- right tables, whose references are of locals with slots
+pub mod SlottedTables
 -- loads of whole numbers
 pub mod LoadedNumbers
 -- stores of whole numbers
