@@ -38,7 +38,11 @@ pub mod SlottedTypes
 pub mod SlottedTables
 -- loads of whole numbers
 pub mod LoadedNumbers
+-- loads of references
+pub mod LoadedReferences
 -- stores of whole numbers
 pub mod StoredNumbers
 -- stores of references
 pub mod StoredReferences
+-- loads and stores of both kinds
+pub mod LocalMoves
