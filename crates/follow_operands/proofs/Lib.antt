@@ -46,3 +46,5 @@ pub mod StoredNumbers
 pub mod StoredReferences
 -- loads and stores of both kinds
 pub mod LocalMoves
+-- increments
+pub mod IncrementedNumbers
