@@ -26,3 +26,5 @@ pub mod FrameStands
 pub mod HeldBeside
 -- objects of the library that the machine throws
 pub mod LibraryObjects
+-- rows catch classes alike
+pub mod CaughtClasses
