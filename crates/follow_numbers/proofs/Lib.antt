@@ -28,3 +28,5 @@ pub mod HeldBeside
 pub mod LibraryObjects
 -- rows catch classes alike
 pub mod CaughtClasses
+-- classes by those directly above them
+pub mod ClassesUp
