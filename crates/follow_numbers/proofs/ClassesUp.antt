@@ -21,7 +21,7 @@ supers_of files class = option_to_list (superclass_of files class) ++ superinter
 
 -- ---- lists
 
-among_first : (upper : ℕ) (found : Option ℕ) (rest : List ℕ) → is_number upper found ≡ true → is_among upper (option_to_list found ++ rest) ≡ true
+pub among_first : (upper : ℕ) (found : Option ℕ) (rest : List ℕ) → is_number upper found ≡ true → is_among upper (option_to_list found ++ rest) ≡ true
 among_first upper None rest e = cc
 among_first upper (Some other) rest e = or_left (nat_eq upper other) (is_among upper rest) e
 
@@ -45,7 +45,7 @@ kept_among upper name (index ∷ indexes) e =
       | inr later ↦ kept_rest upper (name index) (filter_map name indexes) (kept_among upper name indexes later)
     ]
 
-any_of : (test : ℕ → Bool) (number : ℕ) (numbers : List ℕ) → is_among number numbers ≡ true → test number ≡ true → list_any test numbers ≡ true
+pub any_of : (test : ℕ → Bool) (number : ℕ) (numbers : List ℕ) → is_among number numbers ≡ true → test number ≡ true → list_any test numbers ≡ true
 any_of test number [] among passes = cc
 any_of test number (other ∷ numbers) among passes =
     elim (or_cases (nat_eq number other) (is_among number numbers) among) [
@@ -109,7 +109,7 @@ module _ (files : List ClassFile) (class upper : ℕ) where
         | inr above ↦ (subclass_says files class upper).1 (inr (comes_down (supers_of files class) all_above above))
       ]
 
-same_test : (a b : Bool) → (a ≡ true → b ≡ true) → (b ≡ true → a ≡ true) → a ≡ b
+pub same_test : (a b : Bool) → (a ≡ true → b ≡ true) → (b ≡ true → a ≡ true) → a ≡ b
 same_test true b there back = sym (there refl)
 same_test false true there back = back refl
 same_test false false there back = refl

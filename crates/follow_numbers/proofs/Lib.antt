@@ -30,3 +30,5 @@ pub mod LibraryObjects
 pub mod CaughtClasses
 -- classes by those directly above them
 pub mod ClassesUp
+-- the image and the set agree on classes
+pub mod ImageClasses
