@@ -32,3 +32,5 @@ pub mod CaughtClasses
 pub mod ClassesUp
 -- the image and the set agree on classes
 pub mod ImageClasses
+-- what stands above a class is of the set
+pub mod SupersInside
