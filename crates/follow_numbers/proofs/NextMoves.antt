@@ -19,7 +19,7 @@ use Rattle.typed_machine.specs.TypedWorld.{pc_after}
 use Rattle.type_safety.specs.Safety.{MoveFits}
 use Rattle.match_states.specs.Followed.{StatesMatch, EndingsMatch}
 use Rattle.match_states.specs.Setting.{Setting, source_for}
-use Rattle.match_states.specs.TypedView.{machine}
+use Rattle.typed_machine.specs.TypedView.{machine}
 use Rattle.match_code.specs.Standing.{emitted_at, StandsInExpansion}
 use Rattle.match_code.proofs.CodeLayout.{same_after}
 use Rattle.match_code.proofs.CodeMoves.{insn_here, move_here, goes_past}

@@ -22,7 +22,7 @@ use Rattle.type_safety.proofs.SafeMoves.{facts_keep_safe}
 use Rattle.match_states.specs.Followed.{StatesMatch, EndingsMatch}
 use Rattle.match_states.specs.MatchedFrames.{LocalsMatch, YoungestMatches}
 use Rattle.match_states.specs.Setting.{Setting, table_for, source_for, widths_for, id_for}
-use Rattle.match_states.specs.TypedView.{machine}
+use Rattle.typed_machine.specs.TypedView.{machine}
 use Rattle.match_code.proofs.MatchedCode.{IsFound, found_body}
 use Rattle.match_views.proofs.NextFrames.{states_with_frames}
 use Rattle.follow_numbers.proofs.KnownOperands.{body_operands}

@@ -13,7 +13,7 @@ use Rattle.type_safety.specs.Fitting.{StateFits}
 use Rattle.match_states.specs.Setting.{Setting, IsCompiled, IsWide}
 use Rattle.match_states.specs.MatchedFrames.{FramesMatch}
 use Rattle.match_states.specs.MatchedObjects.{ObjectsMatch, StaticsMatch}
-use Rattle.match_states.specs.TypedView.{machine}
+use Rattle.typed_machine.specs.TypedView.{machine}
 
 -- the states match, and the typed one fits the types of its methods
 pub record StatesMatch (setting : Setting) (state : State) (other : SplitState) : Type 0 where

@@ -21,16 +21,12 @@ use Rattle.mote_model.specs.State.{Reference, Half, Frame as SplitFrame}
 use Rattle.mote_model.specs.SplitMoves.{cells_at, cells_of, count_of}
 use Rattle.typed_machine.specs.TypedState.{Frame}
 use Rattle.typed_machine.specs.TypedStep.{local_at}
+pub use Rattle.typed_machine.specs.TypedView.{reference_of, local_reference}
 use Rattle.typed_machine.specs.TypedWorld.{body_among}
 use Rattle.type_safety.specs.Fitting.{IsWhole}
 use Rattle.match_states.specs.Setting.{Setting, table_for, source_for, widths_for, id_for}
 
 -- ---- values
-
--- what stands for a value in the half of references: null, where it is no reference
-abbrev pub reference_of : Value → Reference
-reference_of (Name name) = Some name
-reference_of value = None
 
 -- the cells of a value of a shape, the low one first: of a number of one cell its low half
 abbrev pub cells_of_shape : Kind → Value → List ℕ
@@ -61,10 +57,6 @@ pub record OperandsMatch (shapes : List Kind) (values : List Value) (refs : List
   pub cells_are : cells ≡ operand_cells shapes values
 
 -- ---- locals
-
--- what stands in the slot of a local: null, where it is not set or no reference
-abbrev pub local_reference : Frame → ℕ → Reference
-local_reference frame local = option_map_or reference_of (local_at frame local) None
 
 -- the cells of a local hold a number
 pub record HoldsNumber (setting : Setting) (body : Body) (cells : List ℕ) (local : ℕ) (number : ℤ) : Type 0 where

@@ -18,20 +18,15 @@ use Rattle.jvm_model.specs.ImageExpansion.{kind_in}
 use Rattle.jvm_model.specs.ImageNumbering.{Field, fields_of_object, static_fields, is_reference_field, is_number_field, type_id}
 use Rattle.mote_model.specs.State.{Reference, Object as SplitObject}
 use Rattle.typed_machine.specs.TypedState.{Fields, Object, Instance, Elements}
+pub use Rattle.typed_machine.specs.TypedView.{field_reference, references_in, element_references}
 use Rattle.match_states.specs.Setting.{Setting}
 use Rattle.match_states.specs.MatchedFrames.{reference_of, cells_of_shape}
 
 -- ---- fields
 
-abbrev pub field_reference : Fields → Field → Reference
-field_reference fields field = option_map_or reference_of (fields field.member) None
-
 -- the cells of a field that is a whole number: one of a small type, two of an int
 abbrev pub field_cells : Fields → Field → List ℕ
 field_cells fields field = option_map_or (cells_of_shape (kind_in field.kind)) (fields field.member) []
-
-abbrev pub references_in : Fields → List Field → List Reference
-references_in fields all = map (field_reference fields) (filter is_reference_field all)
 
 abbrev pub cells_in : Fields → List Field → List ℕ
 cells_in fields all = flat_map (field_cells fields) (filter is_number_field all)
@@ -53,9 +48,6 @@ number_elements base.Int elements = flat_map (cells_of_shape kind.Two) elements
 number_elements base.Byte elements = packed (map low_byte elements)
 number_elements base.Boolean elements = packed (map low_byte elements)
 number_elements of elements = flat_map (cells_of_shape kind.One) elements
-
-abbrev pub element_references : TypeRef → List Value → List Reference
-element_references component elements = if is_reference component.dims component.base then map reference_of elements else []
 
 abbrev pub element_cells : TypeRef → List Value → List ℕ
 element_cells component elements = if is_reference component.dims component.base then [] else number_elements component.base elements

@@ -18,7 +18,7 @@ use Rattle.typed_machine.specs.TypedWorld.{body_among}
 use Rattle.type_safety.specs.Fitting.{IsWhole}
 use Rattle.match_states.specs.Setting.{Setting}
 use Rattle.match_states.specs.MatchedFrames.{reference_of, IsOfShape, operand_refs, OperandsMatch, local_reference, LocalsMatch, YoungestMatches, WaitingMatches}
-use Rattle.match_states.specs.TypedView.{frame_names}
+use Rattle.typed_machine.specs.TypedView.{frame_names}
 use Rattle.match_views.proofs.MatchedLists.{map-reverse}
 
 -- ---- names of references

@@ -21,7 +21,7 @@ use Rattle.typed_machine.specs.TypedWorld.{kind_of}
 use Rattle.type_safety.specs.Fitting.{IsWhole, ValueFits, KindFits, ObjectFits}
 use Rattle.match_states.specs.Setting.{Setting}
 use Rattle.match_states.specs.MatchedObjects.{references_in, cells_in, element_references, element_cells, ObjectHas, ObjectMatches}
-use Rattle.match_states.specs.TypedView.{names_in, cells_of_object}
+use Rattle.typed_machine.specs.TypedView.{names_in, cells_of_object}
 use Rattle.match_views.proofs.ObjectFields.{DeclaresField, all_instance_fields, all_mapped}
 use Rattle.match_views.proofs.FieldCells.{size-by_levels, IsHeld, held_cells}
 use Rattle.match_views.proofs.ElementCells.{array_parts, elements_whole}

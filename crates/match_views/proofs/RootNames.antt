@@ -11,7 +11,7 @@ use Rattle.match_states.specs.Setting.{Setting}
 use Rattle.match_states.specs.MatchedFrames.{WaitingMatches, FramesMatch}
 use Rattle.match_states.specs.MatchedObjects.{references_in}
 use Rattle.match_states.specs.Followed.{StatesMatch}
-use Rattle.match_states.specs.TypedView.{frame_names, roots_of}
+use Rattle.typed_machine.specs.TypedView.{frame_names, roots_of}
 use Rattle.match_views.proofs.MatchedLists.{AreSame, each_so, all_so, same_turned}
 use Rattle.match_views.proofs.FrameNames.{youngest_names, waiting_names}
 

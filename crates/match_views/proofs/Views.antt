@@ -13,7 +13,7 @@ use Rattle.type_safety.specs.Fitting.{Tables, ObjectFits, FramesFit}
 use Rattle.match_states.specs.Setting.{Setting, IsCompiled}
 use Rattle.match_states.specs.MatchedObjects.{ObjectMatches}
 use Rattle.match_states.specs.Followed.{StatesMatch}
-use Rattle.match_states.specs.TypedView.{names_in, cells_of_object, roots_of, objects_of, view_of}
+use Rattle.typed_machine.specs.TypedView.{names_in, cells_of_object, roots_of, objects_of, view_of}
 use Rattle.match_views.proofs.MatchedLists.{each_count, each_so, same_at, same_sum}
 use Rattle.match_views.proofs.RootNames.{roots-same}
 use Rattle.match_views.proofs.ObjectViews.{object_names, object_cells-same}

@@ -5,3 +5,5 @@ pub mod TypedArrays
 pub mod TypedCalls
 pub mod TypedStep
 pub mod TypedLaws
+pub mod TypedView
+pub mod TypedRun

@@ -1,23 +1,48 @@
 -- What the account sees of a state of the typed machine: its references in the order of their slots, the objects that they
 -- lead to, and the cells of all frames.
-use Rattle.std.specs.Prelude.{ℕ, List, [], ◌++◌, map, reverse, length, Option, slice_get}
+use Rattle.std.specs.Prelude.{ℕ, List, [], ◌++◌, map, filter, reverse, length, if◌then◌else◌, Option, Some, None, slice_get}
 use Rattle.std.specs.Option.{option_map_or}
-use Rattle.std.specs.List.{flat_map, sum_by}
-use Rattle.class_pool.specs.declared.types.MemberId.{MemberId}
+use Rattle.std.specs.List.{flat_map, filter_map, sum_by}
+use Rattle.class_pool.specs.declared.types.TypeRef.{TypeRef}
+use Rattle.class_tree.specs.Merge.{is_reference}
 use Rattle.body_form.specs.declared.body.Body.{Body}
+use Rattle.jvm_model.specs.State.{Value, Name}
 use Rattle.jvm_model.specs.TypesRules.{component_of}
 use Rattle.jvm_model.specs.WidthsSlots.{reference_locals}
-use Rattle.jvm_model.specs.ImageNumbering.{fields_of_object, static_fields}
+use Rattle.jvm_model.specs.ImageNumbering.{Field, fields_of_object, static_fields, is_reference_field}
 use Rattle.account.specs.Account.{View}
 use Rattle.account.specs.Reachable.{Objects, collection_of}
 use Rattle.account.specs.Run.{Machine}
-use Rattle.mote_model.specs.SplitState.{names_of}
 use Rattle.typed_machine.specs.TypedMoves.{Ending}
-use Rattle.typed_machine.specs.TypedState.{Object, Instance, Elements, Frame, State}
-use Rattle.typed_machine.specs.TypedStep.{move}
+use Rattle.typed_machine.specs.TypedState.{Fields, Object, Instance, Elements, Frame, State}
+use Rattle.typed_machine.specs.TypedStep.{local_at, move}
 use Rattle.typed_machine.specs.TypedWorld.{World, body_among, object_cells, array_cells}
-use Rattle.match_states.specs.MatchedFrames.{reference_of, local_reference}
-use Rattle.match_states.specs.MatchedObjects.{references_in, element_references}
+
+-- ---- references
+
+-- the object that a value names, where it is a reference to one
+abbrev pub reference_of : Value → Option ℕ
+reference_of (Name name) = Some name
+reference_of value = None
+
+-- what a local names, where it is set
+abbrev pub local_reference : Frame → ℕ → Option ℕ
+local_reference frame local = option_map_or reference_of (local_at frame local) None
+
+abbrev pub field_reference : Fields → Field → Option ℕ
+field_reference fields field = option_map_or reference_of (fields field.member) None
+
+abbrev pub references_in : Fields → List Field → List (Option ℕ)
+references_in fields all = map (field_reference fields) (filter is_reference_field all)
+
+abbrev pub element_references : TypeRef → List Value → List (Option ℕ)
+element_references component elements = if is_reference component.dims component.base then map reference_of elements else []
+
+-- the objects that are named
+abbrev pub names_of : List (Option ℕ) → List ℕ
+names_of references = filter_map (λ reference. reference) references
+
+-- ---- what is seen
 
 -- the references of a frame: of its locals in the order of their slots, then of its operands from the bottom
 abbrev pub frame_names : World → Frame → List ℕ
