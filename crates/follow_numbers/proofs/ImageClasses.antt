@@ -15,11 +15,11 @@ use Rattle.mote_model.specs.SplitTypes.{entry_at, above, elements_of, is_below_b
 use Rattle.match_states.specs.Setting.{Setting}
 use Rattle.follow_numbers.proofs.CaughtClasses.{class_id, ClassesAgree}
 use Rattle.follow_numbers.proofs.ClassesUp.{supers_of, among_first, any_of, same_test, subclass_up}
+use Rattle.follow_numbers.proofs.SupersInside.{super_inside}
 
--- The classes of a set stand in its image: those directly above a class are of the set, have lower ids, and stand above its
--- id. No class is an array, each has an id of its own, and the ids are counted.
+-- The classes of a set stand in its image: those directly above a class have lower ids, and stand above its id. No class is
+-- an array, each has an id of its own, and the ids are counted.
 pub record HasClasses (setting : Setting) : Type 0 where
-  pub inside : (class by : ℕ) → IsClass setting.world.files class → is_among by (supers_of setting.world.files class) ≡ true → IsClass setting.world.files by
   pub lower : (class by : ℕ) → IsClass setting.world.files class → is_among by (supers_of setting.world.files class) ≡ true → class_id setting by < class_id setting class
   pub above_is : (class : ℕ) → IsClass setting.world.files class → above setting.image (class_id setting class) ≡ map (class_id setting) (supers_of setting.world.files class)
   pub no_array : (class : ℕ) → IsClass setting.world.files class → (other : Option TypeEntry) → elements_of (entry_at setting.image (class_id setting class)) other ≡ None
@@ -30,11 +30,11 @@ or_none : (b : Bool) → (b || false) ≡ b
 or_none true = refl
 or_none false = refl
 
-module _ (setting : Setting) (has : HasClasses setting) where
+module _ (setting : Setting) (closed : Gathers setting.world.files None) (has : HasClasses setting) where
   -- each class is below java/lang/Object
-  below_object : Gathers setting.world.files None → (steps class : ℕ) → IsClass setting.world.files class → class_id setting class < steps → is_subclass setting.world.files class 0 ≡ true
-  below_object closed zero class is less = absurd (omega (arith, less))
-  below_object closed (suc steps) class is less =
+  below_object : (steps class : ℕ) → IsClass setting.world.files class → class_id setting class < steps → is_subclass setting.world.files class 0 ≡ true
+  below_object zero class is less = absurd (omega (arith, less))
+  below_object (suc steps) class is less =
       elim (next_class setting.world.files closed class is) [
         | inl object ↦ subst (λ c. is_subclass setting.world.files c 0 ≡ true) (sym object) refl
         | inr next ↦
@@ -45,7 +45,7 @@ module _ (setting : Setting) (has : HasClasses setting) where
             let low = has.lower class by is among in
             subclass_up files class 0
             ∙ or_right (nat_eq class 0) (list_any (λ other. is_subclass files other 0) (supers_of files class))
-            (any_of (λ other. is_subclass files other 0) by (supers_of files class) among (below_object closed steps by (has.inside class by is among) (omega (arith, low, less))))
+            (any_of (λ other. is_subclass files other 0) by (supers_of files class) among (below_object steps by (super_inside setting.world.files closed by class is among) (omega (arith, low, less))))
       ]
 
   module _ (upper : ℕ) (known : IsClass setting.world.files upper) where
@@ -78,7 +78,7 @@ module _ (setting : Setting) (has : HasClasses setting) where
         ∙ ap (λ (pair_found : Option (ℕ × ℕ)). nat_eq class upper || (list_any test (map (class_id setting) supers) || pairs pair_found)) (has.no_array class is (entry_at setting.image target))
         ∙ ap (λ (any : Bool). nat_eq class upper || any) (or_none (list_any test (map (class_id setting) supers)))
         ∙ ap (λ (any : Bool). nat_eq class upper || any)
-        (any_alike test supers (λ by among. let low = has.lower class by is among in by_steps steps by (has.inside class by is among) (omega (arith, low, less))))
+        (any_alike test supers (λ by among. let low = has.lower class by is among in by_steps steps by (super_inside setting.world.files closed by class is among) (omega (arith, low, less))))
         ∙ sym (subclass_up files class upper)
 
     object_or_other : (class : ℕ) → IsClass setting.world.files class → is_subclass setting.world.files class 0 ≡ true → (object : Bool) → nat_eq (class_id setting upper) 0 ≡ object
@@ -88,6 +88,6 @@ module _ (setting : Setting) (has : HasClasses setting) where
         sym below ∙ ap (is_subclass setting.world.files class) (sym zero_is)
     object_or_other class is below false same = by_steps (first_own + length setting.image.types) class is (has.counted class is)
 
-  pub classes_agree : Gathers setting.world.files None → (class : ℕ) → IsClass setting.world.files class → ClassesAgree setting class
-  classes_agree closed class is upper known =
-      object_or_other upper known class is (below_object closed (suc (class_id setting class)) class is (omega arith)) (nat_eq (class_id setting upper) 0) refl
+  pub classes_agree : (class : ℕ) → IsClass setting.world.files class → ClassesAgree setting class
+  classes_agree class is upper known =
+      object_or_other upper known class is (below_object (suc (class_id setting class)) class is (omega arith)) (nat_eq (class_id setting upper) 0) refl

@@ -34,3 +34,5 @@ pub mod ClassesUp
 pub mod ImageClasses
 -- what stands above a class is of the set
 pub mod SupersInside
+-- types begin with the classes
+pub mod TypesBegin
