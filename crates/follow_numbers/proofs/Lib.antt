@@ -36,3 +36,5 @@ pub mod ImageClasses
 pub mod SupersInside
 -- types begin with the classes
 pub mod TypesBegin
+-- places of classes among the types
+pub mod ClassPlaces
