@@ -11,7 +11,7 @@ use Rattle.class_tree.specs.Tree.{Gathers}
 use Rattle.class_tree.proofs.ancestors.Leading.{or_left, or_right}
 use Rattle.class_tree.proofs.ancestors.Superclasses.{next_class}
 use Rattle.jvm_model.specs.ImageNumbering.{is_among}
-use Rattle.mote_model.specs.SplitTypes.{entry_at, above, elements_of, is_below_by, is_below}
+use Rattle.mote_model.specs.SplitTypes.{entry_at, above, elements_of, is_below_by}
 use Rattle.match_states.specs.Setting.{Setting}
 use Rattle.follow_numbers.proofs.CaughtClasses.{class_id, ClassesAgree}
 use Rattle.follow_numbers.proofs.ClassesUp.{supers_of, among_first, any_of, same_test, subclass_up}

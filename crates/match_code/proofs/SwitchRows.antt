@@ -1,5 +1,5 @@
 -- The rows of a switch of a set keep to the limits of machine instructions.
-use Rattle.std.proofs.Common.{◌≡◌, ℕ, ℤ, pos, List, [], ◌∷◌, length, map, Option, Some, None, arith}
+use Rattle.std.proofs.Common.{ℕ, ℤ, pos, List, [], ◌∷◌, map, Option, Some, None, arith}
 use Rattle.std.specs.Prelude.{◌+ℤ◌}
 use Rattle.std.proofs.lemmas.List.{length-map}
 use Rattle.image_instr.specs.Insn as image
