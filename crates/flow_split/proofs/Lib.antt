@@ -1,3 +1,4 @@
 pub mod Moving
 pub mod RoomsOf
 pub mod PeakSteps
+pub mod Seeing

@@ -4,7 +4,7 @@ ghost use Rattle.std.specs.Prelude.{◌≡◌, ℕ, IfSome};
 ghost use Rattle.jvm_model.specs.WidthsShapes.{Point};
 ghost use Rattle.jvm_model.specs.WidthsFrame.{call_signature, most_operands};
 ghost use Rattle.jvm_model.specs.ImageExpansion.{Locals, Ids, expanded};
-ghost use Rattle.flow_split.specs.Around.{is_call as is_call_of, IsAround};
+ghost use Rattle.flow_split.specs.Around.{is_call as is_call_of, IsAround, IsSeen};
 
 use crate::calls::most_of_call;
 use crate::instructions::moves_of;
@@ -23,8 +23,9 @@ fn is_call(op: &Op) -> bool
     )
 }
 
-/// The greatest number of operand cells at an instruction, from so many before it; `None` where a number does not fit.
-pub(crate) fn most_of(
+/// The greatest number of operand cells at an instruction, from so many before it and the shapes of all operands; `None`
+/// where a number does not fit.
+fn most_around(
     height: u64,
     op: &Op,
     width: Width,
@@ -48,4 +49,19 @@ pub(crate) fn most_of(
         }
         _ => None,
     }
+}
+
+/// The greatest number of operand cells at an instruction, from so many before it; `None` where a number does not fit. Of
+/// the shapes before it no more count than the instruction looks at.
+pub(crate) fn most_of(
+    height: u64,
+    op: &Op,
+    width: Width,
+    before: &[Shape],
+    after: Shape,
+    kept: &Option<Kind>,
+) -> Option<u64>
+    ensures { IfSome result (λ most. (locals : Locals) (ids : Ids) (offset : ℕ → ℕ) (point : Point) → IsSeen locals point op.now width before.now after → most ≡ most_operands (call_signature op.now) height (expanded locals ids offset kept.now point op.now)) }
+{
+    most_around(height, op, width, before, after, kept)
 }

@@ -1,17 +1,14 @@
--- The moves of an instruction that is no call have the greatest number of its expansion.
-use Rattle.std.proofs.Common.{◌≡◌, false, max, sym, ap, ◌∙◌}
+-- The instruction sees what is handed in.
+use Rattle.std.proofs.Common.{◌≡◌, List, ap, ◌∙◌}
 use Rattle.std.proofs.lemmas.Option.{IfSome_then}
-use Rattle.jvm_model.specs.WidthsFrame.{call_signature}
-use Rattle.jvm_model.specs.ImageExpansion.{expanded}
-use Rattle.flow_split.specs.Around.{is_call}
-use Rattle.flow_split.proofs.Moving.{enough, operands_from}
+use Rattle.jvm_model.specs.WidthsFrame.{call_signature, most_operands}
+use Rattle.jvm_model.specs.ImageExpansion.{Emitted}
+use Rattle.flow_split.proofs.Seeing.{shown, as_seen, as_shown}
 use Rattle.flow_split.proofs.most.most_of.Goals as goal
 
-pub returns-then-not-is_call : goal.returns-then-not-is_call
-returns-then-not-is_call c = IfSome_then c.most_cells.result c.most_cells.ensures (λ most is locals ids offset point around.
+pub returns : goal.returns
+returns c = IfSome_then c.most_around.result c.most_around.ensures (λ most is locals ids offset point seen.
     let op = c.args.op.now in
-    let height = c.args.height in
-    let emitted = expanded locals ids offset c.args.kept.now point op in
-    let plain : is_call op ≡ false = sym c.is_call.ensures ∙ c.if-not-is_call.true in
-    let are = c.moves_of.ensures locals ids offset point plain around in
-    is ∙ ap (max height) (sym (enough (call_signature op) height emitted c.moves_of.result are)) ∙ operands_from (call_signature op) height emitted)
+    let shapes = c.args.before.now in
+    is locals ids offset (shown point shapes) (as_shown locals point op c.args.width shapes c.args.after seen)
+    ∙ ap (λ (list : List Emitted). most_operands (call_signature op) c.args.height list) (as_seen locals ids offset point c.args.kept.now op c.args.width shapes c.args.after seen))
