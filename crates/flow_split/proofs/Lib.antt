@@ -1,4 +1,5 @@
 pub mod Moving
+pub mod Searching
 pub mod RoomsOf
 pub mod PeakSteps
 pub mod Seeing

@@ -1,5 +1,5 @@
 -- What an instruction does not look at does not count for its expansion.
-use Rattle.std.proofs.Common.{◌≡◌, ℕ, true, List, Option, refl, sym, ap, ◌∙◌}
+use Rattle.std.proofs.Common.{◌≡◌, ℕ, List, Option, refl, sym, ap, ◌∙◌}
 use Rattle.class_pool.specs.declared.descriptor.Kind.{Kind as DeclaredKind}
 use Rattle.class_pool.specs.declared.types.TypeBase.TheVariants as base
 use Rattle.insn_form.specs.declared.ValueKind.TheVariants as value_kind
@@ -7,12 +7,11 @@ use Rattle.image_instr.specs.declared.insn.Kind.{Kind}
 use Rattle.image_instr.specs.declared.insn.MInsn.{MInsn}
 use Rattle.image_instr.specs.declared.insn.Width.{Width}
 use Rattle.image_instr.specs.declared.insn.Width.TheVariants as width
-use Rattle.body_form.specs.declared.op.MethodUse.{MethodUse}
 use Rattle.body_form.specs.declared.op.Op.{Op}
 use Rattle.body_form.specs.declared.op.Op.TheVariants as op
 use Rattle.body_form.specs.declared.types.VType.TheVariants as known
 use Rattle.jvm_model.specs.WidthsShapes.{Point}
-use Rattle.jvm_model.specs.ImageExpansion.{Locals, Ids, expanded, is_boolean_array, top_of}
+use Rattle.jvm_model.specs.ImageExpansion.{Locals, Ids, expanded, is_boolean_array}
 use Rattle.expansion.specs.declared.around.Around.{Around}
 use Rattle.expansion.specs.declared.around.Numbers.{Numbers}
 use Rattle.expansion.specs.Expanding.{insns}
@@ -21,7 +20,7 @@ use Rattle.expansion.specs.Seen as seen
 use Rattle.expansion.proofs.Alike.{alike}
 use Rattle.expansion.proofs.Rows.{rows_told}
 use Rattle.flow_split.specs.Around.{IsAround, IsSeen}
-use Rattle.std.specs.Prelude.{None, Some, get_or}
+use Rattle.std.specs.Prelude.{None, get_or}
 
 abbrev of_local : Option ℕ → ℕ → Width → Numbers
 of_local slot cell w = record { slot = slot; cell = cell; width = w; place = 0; type_id = 0; method = 0; selector = 0; target = 0 }

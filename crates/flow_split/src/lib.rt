@@ -4,6 +4,7 @@
 #![tactic(auto)]
 
 mod calls;
+mod entries;
 mod families;
 mod instructions;
 mod kinds;

@@ -1,5 +1,5 @@
 -- The instruction sees what is handed in.
-use Rattle.std.proofs.Common.{◌≡◌, List, ap, ◌∙◌}
+use Rattle.std.proofs.Common.{List, ap, ◌∙◌}
 use Rattle.std.proofs.lemmas.Option.{IfSome_then}
 use Rattle.jvm_model.specs.WidthsFrame.{call_signature, most_operands}
 use Rattle.jvm_model.specs.ImageExpansion.{Emitted}
