@@ -3,3 +3,10 @@ pub mod Searching
 pub mod RoomsOf
 pub mod PeakSteps
 pub mod Seeing
+pub mod Counted
+pub mod OneCells
+pub mod Parting
+pub mod RowsByPc
+pub mod Shaping
+pub mod Deciding
+pub mod Following

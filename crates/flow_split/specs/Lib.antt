@@ -4,3 +4,5 @@ pub mod Rooms
 pub mod Around
 pub mod Peaks
 pub mod Splits
+pub mod Totals
+pub mod Walks

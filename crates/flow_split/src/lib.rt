@@ -11,8 +11,11 @@ mod kinds;
 mod most;
 mod moves;
 mod peaks;
+mod points;
 mod refusal;
 mod restacking;
+mod rows;
+mod totals;
 
 pub use moves::{Move, moves_are_enough};
 pub use refusal::SplitRefusal;
