@@ -10,3 +10,5 @@ pub mod RowsByPc
 pub mod Shaping
 pub mod Deciding
 pub mod Following
+pub mod OneMore
+pub mod Marking

@@ -6,3 +6,4 @@ pub mod Peaks
 pub mod Splits
 pub mod Totals
 pub mod Walks
+pub mod Taken

@@ -8,14 +8,17 @@ mod entries;
 mod families;
 mod instructions;
 mod kinds;
+mod marks;
 mod most;
 mod moves;
+mod parameters;
 mod peaks;
 mod points;
 mod refusal;
 mod restacking;
 mod rows;
 mod totals;
+mod taken;
 
 pub use moves::{Move, moves_are_enough};
 pub use refusal::SplitRefusal;
