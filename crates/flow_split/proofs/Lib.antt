@@ -12,3 +12,8 @@ pub mod Deciding
 pub mod Following
 pub mod OneMore
 pub mod Marking
+pub mod RoomsFound
+pub mod Placing
+pub mod CellsPlaced
+pub mod SlotsPlaced
+pub mod FillsMade

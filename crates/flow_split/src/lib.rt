@@ -4,8 +4,10 @@
 #![tactic(auto)]
 
 mod calls;
+mod cells;
 mod entries;
 mod families;
+mod fills;
 mod instructions;
 mod kinds;
 mod marks;
@@ -18,6 +20,7 @@ mod refusal;
 mod restacking;
 mod rows;
 mod totals;
+mod slots;
 mod taken;
 
 pub use moves::{Move, moves_are_enough};

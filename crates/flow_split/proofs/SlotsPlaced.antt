@@ -1,0 +1,128 @@
+-- The slots of locals are the places that they take one after the other.
+use Rattle.std.proofs.Common.{◌≡◌, ℕ, suc, ◌+◌, ◌<◌, Bool, true, false, cond, not, ◌&&◌, nat_eq, nat_lt, List, [], ◌∷◌, ◌++◌, map, filter, length, Some, None, refl, sym, ap, ◌∙◌, arith}
+use Rattle.std.specs.List.{position_or_len}
+use Rattle.std.proofs.lemmas.Bool.{false≢true}
+use Rattle.std.proofs.lemmas.Bool.Decides.{nat_tests}
+use Rattle.std.proofs.lemmas.List.{map-append, length-append}
+use Rattle.std.proofs.lemmas.List.Sums.{sum_by-cons}
+use Rattle.insn_form.specs.declared.ValueKind.TheVariants as value_kind
+use Rattle.body_form.specs.declared.body.Body.{Body}
+use Rattle.flow_split.specs.declared.taken.Taken.{Taken}
+use Rattle.jvm_model.specs.WidthsSlots.{Room, room_cells, first_cell}
+use Rattle.jvm_model.specs.WidthsSlots.{is_stored, locals_of, is_reference_parameter, slot_of, slot_count}
+use Rattle.flow_split.specs.Taken.{taken_in, place_at, places_of, slot_taken, slots_taken_of}
+use Rattle.flow_split.proofs.RoomsFound.{rooms_where, skipped}
+use Rattle.flow_split.proofs.Placing.{Takes, places_are, then_case, some, at_stored, not_later, at_passed, at_none, cells_in_all}
+
+-- a list of locals as rooms of one place each
+abbrev ones : List ℕ → List Room
+ones locals = map (λ local. (local, 1)) locals
+
+ones_cells : (locals : List ℕ) → room_cells (ones locals) ≡ length locals
+ones_cells [] = refl
+ones_cells (local ∷ locals) = omega (arith, sum_by-cons (λ (room : Room). room.1) (local, 1) (ones locals), ones_cells locals)
+
+-- the first place of a local is its position
+position_step : (local k from : ℕ) (locals : List ℕ) (b : Bool) → nat_eq local k ≡ b → nat_eq k local ≡ b
+    → first_cell (from + 1) (ones locals) k ≡ cond (nat_lt (position_or_len (nat_eq k) locals) (length locals)) (Some ((from + 1) + position_or_len (nat_eq k) locals)) None
+    → first_cell from (ones (local ∷ locals)) k ≡ cond (nat_lt (position_or_len (nat_eq k) (local ∷ locals)) (length (local ∷ locals))) (Some (from + position_or_len (nat_eq k) (local ∷ locals))) None
+unfolding first_cell
+position_step local k from locals true one other below =
+    let rest = position_or_len (nat_eq k) locals in
+    ap (λ (b : Bool). cond b (Some from) (first_cell (from + 1) (ones locals) k)) one
+    ∙ ap Some (omega arith)
+    ∙ sym (then_case (nat_lt 0 (suc (length locals))) (Some (from + 0)) None (some (suc (length locals)) (omega arith)))
+    ∙ sym (ap (λ (b : Bool). cond (nat_lt (cond (not b) (1 + rest) 0) (suc (length locals))) (Some (from + cond (not b) (1 + rest) 0)) None) other)
+position_step local k from locals false one other below =
+    let rest = position_or_len (nat_eq k) locals in
+    let alike : nat_lt rest (length locals) ≡ nat_lt (1 + rest) (suc (length locals)) = grind (arith, nat_tests) in
+    ap (λ (b : Bool). cond b (Some from) (first_cell (from + 1) (ones locals) k)) one
+    ∙ below
+    ∙ ap (λ (b : Bool). cond b (Some ((from + 1) + rest)) None) alike
+    ∙ ap (λ n. cond (nat_lt (1 + rest) (suc (length locals))) (Some n) None) (omega arith)
+    ∙ sym (ap (λ (b : Bool). cond (nat_lt (cond (not b) (1 + rest) 0) (suc (length locals))) (Some (from + cond (not b) (1 + rest) 0)) None) other)
+
+position_is : (locals : List ℕ) (k from : ℕ)
+    → first_cell from (ones locals) k ≡ cond (nat_lt (position_or_len (nat_eq k) locals) (length locals)) (Some (from + position_or_len (nat_eq k) locals)) None
+unfolding first_cell
+position_is [] k from = refl
+position_is (local ∷ locals) k from =
+    let alike : nat_eq k local ≡ nat_eq local k = grind (arith, nat_tests) in
+    position_step local k from locals (nat_eq local k) refl alike (position_is locals k (from + 1))
+
+not_first : (first second : Bool) → (not first && second) ≡ true → first ≡ false
+not_first true second is = absurd (false≢true is)
+not_first false second is = refl
+
+module _ (body : Body) where
+  abbrev f : ℕ → Taken
+  f = slot_taken body
+
+  abbrev passes : ℕ → Bool
+  passes = is_reference_parameter body
+
+  abbrev never : ℕ → Bool
+  never local = false
+
+  abbrev one : ℕ → ℕ
+  one local = 1
+
+  abbrev stores : ℕ → Bool
+  stores local = not (is_reference_parameter body local) && is_stored value_kind.Ref body local
+
+  passed_takes : Takes f (λ t. t.passed) passes one
+  passed_takes = record { same = λ local. refl; some = λ local is. omega arith }
+
+  extended_takes : Takes f (λ t. t.extended) never one
+  extended_takes = record { same = λ local. refl; some = λ local is. omega arith }
+
+  stored_takes : Takes f (λ t. t.stored) stores one
+  stored_takes = record { same = λ local. refl; some = λ local is. omega arith }
+
+  abbrev count : ℕ
+  count = body.max_locals
+
+  abbrev first : List ℕ
+  first = filter passes (locals_of body)
+
+  abbrev second : List ℕ
+  second = filter stores (locals_of body)
+
+  -- the slot is the first place among rooms of one place
+  slot_first : (k : ℕ) → slot_of body k ≡ first_cell 0 (ones first ++ ones second) k
+  slot_first k =
+      ap (λ n. cond (nat_lt (position_or_len (nat_eq k) (first ++ second)) (length (first ++ second))) (Some n) None) (omega arith)
+      ∙ sym (position_is (first ++ second) k 0) ∙ ap (λ (rooms : List Room). first_cell 0 rooms k) (map-append (λ (local : ℕ). (local, 1)) first second)
+
+  none_never : (locals : List ℕ) → filter never locals ≡ []
+  none_never [] = refl
+  none_never (local ∷ locals) = none_never locals
+
+  middle : rooms_where never one (locals_of body) ≡ []
+  middle = ap (λ (locals : List ℕ). map (λ (local : ℕ). (local, 1)) locals) (none_never (locals_of body))
+
+  -- the slot of a local that is no parameter
+  after_first : (k : ℕ) → passes k ≡ false → slot_of body k ≡ first_cell (0 + room_cells (ones first)) (rooms_where never one (locals_of body) ++ ones second) k
+  after_first k fails =
+      slot_first k ∙ skipped passes one 0 (locals_of body) (ones second) k fails
+      ∙ ap (λ (rooms : List Room). first_cell (0 + room_cells (ones first)) (rooms ++ ones second) k) (sym middle)
+
+  place_with : (k : ℕ) → k < count → (s p : Bool) → stores k ≡ s → passes k ≡ p → place_at (slots_taken_of body) k ≡ slot_of body k
+  place_with k within true p is _ =
+      sym (after_first k (not_first (passes k) (is_stored value_kind.Ref body k) is)
+      ∙ ap (λ n. first_cell n (rooms_where never one (locals_of body) ++ ones second) k) (omega arith)
+      ∙ at_stored f count passes never stores one one one passed_takes extended_takes stored_takes k within refl is)
+  place_with k within false true not_stored is =
+      sym (slot_first k ∙ at_passed f count passes never stores one one one passed_takes extended_takes stored_takes k within refl not_stored (ones second) is)
+  place_with k within false false not_stored fails =
+      at_none f count passes never stores one one one passed_takes extended_takes stored_takes k within refl not_stored fails
+      ∙ sym (after_first k fails ∙ not_later f count passes never stores one one one passed_takes extended_takes stored_takes k refl not_stored (0 + room_cells (ones first)))
+
+  pub slots_placed : places_of (slots_taken_of body) ≡ map (slot_of body) (locals_of body)
+  slots_placed = places_are f count (slot_of body) (λ k within. place_with k within (stores k) (passes k) refl refl)
+
+  pub slots_counted : taken_in (slots_taken_of body) ≡ slot_count body
+  slots_counted =
+      let sums = cells_in_all f count passes never stores one one one passed_takes extended_takes stored_takes in
+      let none = ap room_cells middle in
+      omega (arith, sums, none, ones_cells first, ones_cells second, length-append first second)

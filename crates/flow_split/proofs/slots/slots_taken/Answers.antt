@@ -1,0 +1,22 @@
+-- One more local takes its slot.
+use Rattle.std.proofs.Common.{false, length, ap, ◌∙◌, arith}
+use Rattle.insn_form.specs.declared.ValueKind.TheVariants as value_kind
+use Rattle.jvm_model.specs.WidthsSlots.{is_stored}
+use Rattle.flow_split.specs.Taken.{slot_taken}
+use Rattle.flow_split.proofs.Marking.{long, mark_at}
+use Rattle.flow_split.proofs.OneMore.{one_more, at_same}
+use Rattle.flow_split.proofs.slots.slots_taken.Goals as goal
+
+pub bounds-marks-index : goal.bounds-marks-index
+bounds-marks-index c =
+    let size = long c.args.body.now.max_locals (is_stored value_kind.Ref c.args.body.now) c.in_ok-marks.marks.items c.in_ok-marks.ensures in
+    let same = ap length c.as_slice-marks.ensures.value in
+    omega (arith, size, same)
+
+pub loop-local-preserved : goal.loop-local-preserved
+loop-local-preserved c =
+    let body = c.args.body.now in
+    let local = c.loop-local.local in
+    let marked = mark_at body.max_locals (is_stored value_kind.Ref body) c.in_ok-marks.marks.items c.in_ok-marks.ensures local false c.loop-local-test.true in
+    let mark = at_same c.as_slice-marks.result.now c.in_ok-marks.marks.items c.from-index.result local false c.as_slice-marks.ensures.value c.from-index.ensures in
+    one_more (slot_taken body) local c.loop-local.taken.items c.push.new.self.items c.slot_taken.result c.in-Ok.ensures.items c.loop-local.invariant (c.slot_taken.ensures (mark ∙ marked))
