@@ -17,3 +17,7 @@ pub mod Placing
 pub mod CellsPlaced
 pub mod SlotsPlaced
 pub mod FillsMade
+pub mod Filling
+pub mod Greatest
+pub mod MostKnown
+pub mod Naming

@@ -1,5 +1,5 @@
 -- What is asked of the types and of the whole numbers of one cell, and what is answered.
-use Rattle.std.specs.Prelude.{◌≡◌, ℕ, ◌-◌, ◌<◌, Bool, true, false, ◌&&◌, ◌||◌, not, nat_eq, nat_lt, if◌then◌else◌, List, length, get_or}
+use Rattle.std.specs.Prelude.{◌≡◌, ℕ, ◌-◌, ◌<◌, Bool, true, false, ◌&&◌, ◌||◌, not, nat_eq, nat_lt, if◌then◌else◌, List, length, get_or, IfSome}
 use Rattle.std.specs.Option.{option_map_or}
 use Rattle.std.specs.List.{AllByRecursion, AllPairs}
 use Rattle.code_reach.specs.Reached.{RisesFrom}
@@ -13,6 +13,7 @@ use Rattle.jvm_model.specs.TypesRight.{Table}
 use Rattle.jvm_model.specs.WidthsShapes.{widths_of}
 use Rattle.jvm_model.specs.WidthsFrame.{frame_cells, most_frame_cells}
 use Rattle.type_table.specs.Types.{Rows, table_of}
+use Rattle.flow_split.specs.Around.{local_named}
 use Rattle.flow_split.specs.declared.refusal.SplitRefusal.{SplitRefusal}
 use Rattle.flow_split.specs.declared.refusal.SplitRefusal.TheVariants.{FrameTooLarge, Memory}
 
@@ -22,6 +23,10 @@ use Rattle.flow_split.specs.declared.refusal.SplitRefusal.TheVariants.{FrameTooL
 pub record AreRows (body : Body) (rows : Rows) : Type 0 where
   pub rise : RisesFrom 0 rows
   pub starts : AllByRecursion (λ row. IsStart body.ops row.0) rows
+
+-- each local that an instruction with types names is one of the method's
+abbrev pub AreNamed : Body → Rows → Type 0
+AreNamed body rows = AllByRecursion (λ x. IfSome (table_of rows x.0) (λ frame. IfSome (local_named x.1) (λ local. local < body.max_locals))) body.ops
 
 -- the first entry comes before the second: by pc, then locals before operands, then place
 abbrev pub comes_before : Entry → Entry → Bool
