@@ -25,6 +25,7 @@ mod slots;
 mod taken;
 mod totals;
 mod walk;
+mod widths;
 
 pub use moves::{Move, moves_are_enough};
 pub use refusal::SplitRefusal;
