@@ -56,7 +56,8 @@ pub(crate) fn cells_taken(
     widths: &[Width],
 ) -> Result<Vec<Taken>, AllocError>
     requires { length widths.now ≡ body.now.max_locals }
-    ensures { IfOk result (λ taken. (all : Widths) → widths.now ≡ map all.local (locals_of body.now) → taken.items ≡ cells_taken_of body.now all) }
+    ensures is { IfOk result (λ taken. (all : Widths) → widths.now ≡ map all.local (locals_of body.now) → taken.items ≡ cells_taken_of body.now all) }
+    ensures size { IfOk result (λ taken. length taken.items ≡ body.now.max_locals) }
 {
     let marks = stored(alloc, ValueKind::Int, body)?;
     let marks = marks.as_slice();
@@ -74,7 +75,8 @@ pub(crate) fn cells_taken(
 /// How many cells the locals take.
 pub(crate) fn cell_total(taken: &[Taken]) -> u32
     requires { length taken.now ≤ 65535 }
-    ensures { (body : MethodBody) (widths : Widths) → taken.now ≡ cells_taken_of body widths → result ≡ cell_count body widths }
+    ensures sum { result ≡ taken_in taken.now }
+    ensures is { (body : MethodBody) (widths : Widths) → taken.now ≡ cells_taken_of body widths → result ≡ cell_count body widths }
 {
     total(taken)
 }

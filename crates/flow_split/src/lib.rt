@@ -9,6 +9,7 @@ mod entries;
 mod families;
 mod fill_cells;
 mod fills;
+mod heights;
 mod instructions;
 mod kinds;
 mod marks;

@@ -27,7 +27,8 @@ fn slot_taken(body: &Body, local: u16, stored: bool) -> Taken
 
 /// What each local takes of the slots.
 pub(crate) fn slots_taken(alloc: Global, body: &Body) -> Result<Vec<Taken>, AllocError>
-    ensures { IfOk result (λ taken. taken.items ≡ slots_taken_of body.now) }
+    ensures is { IfOk result (λ taken. taken.items ≡ slots_taken_of body.now) }
+    ensures size { IfOk result (λ taken. length taken.items ≡ body.now.max_locals) }
 {
     let marks = stored(alloc, ValueKind::Ref, body)?;
     let marks = marks.as_slice();
@@ -45,7 +46,8 @@ pub(crate) fn slots_taken(alloc: Global, body: &Body) -> Result<Vec<Taken>, Allo
 /// How many slots the locals take.
 pub(crate) fn slot_total(taken: &[Taken]) -> u32
     requires { length taken.now ≤ 65535 }
-    ensures { (body : MethodBody) → taken.now ≡ slots_taken_of body → result ≡ slot_count body }
+    ensures sum { result ≡ taken_in taken.now }
+    ensures is { (body : MethodBody) → taken.now ≡ slots_taken_of body → result ≡ slot_count body }
 {
     total(taken)
 }

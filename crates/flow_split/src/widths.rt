@@ -1,21 +1,25 @@
 //! How many cells the whole numbers of each local have.
 
-ghost use Rattle.std.specs.Prelude.{◌≡◌, ◌||◌, ◌-◌, ℕ, Bool, true, false, nat_eq, map, IfOk};
+ghost use Rattle.std.specs.Prelude.{◌≡◌, ◌||◌, ◌-◌, ℕ, Bool, true, false, nat_eq, length, map, IfOk};
 ghost use Rattle.std.specs.Option.{option_map_or};
 ghost use Rattle.std.specs.List.{list_any, AllPairs};
+ghost use Rattle.code_reach.specs.Reached.{RisesFrom};
 ghost use Rattle.jvm_model.specs.TypesRight.{Table};
 ghost use Rattle.jvm_model.specs.WidthsShapes.{height_at, is_local_entry, stores_one, local_width, width_where};
 ghost use Rattle.jvm_model.specs.WidthsSlots.{locals_of};
+ghost use Rattle.type_table.specs.Types.{table_of};
 ghost use Rattle.flow_split.specs.Splits.{comes_before};
 ghost use Rattle.flow_split.specs.Taken.{AreMarks};
 
 use crate::entries::has_entry;
+use crate::heights::heights;
 use crate::marks::mark;
 use body_form::{Body, Op};
 use image_instr::Width;
 use insn_form::ValueKind;
 use jvm_model::Entry;
 use std::alloc::{AllocError, Global};
+use type_table::Types;
 
 /// The local that an entry is of.
 fn local_of(entry: Entry) -> Option<u16>
@@ -101,4 +105,20 @@ pub(crate) fn widths_at(
     mark_entries(&mut marks, narrow);
     mark_narrow(&mut marks, narrow, body.ops.as_slice(), heights);
     widths_by(alloc, marks.as_slice())
+}
+
+/// The width of each local; in time by the instructions, the entries and the rows.
+pub(crate) fn local_widths(
+    alloc: Global,
+    body: &Body,
+    types: &Types,
+    narrow: &[Entry],
+) -> Result<Vec<Width>, AllocError>
+    requires rise { RisesFrom 0 types.now }
+    requires order { AllPairs (λ first second. comes_before first second ≡ true) narrow.now }
+    ensures is { IfOk result (λ widths. widths.items ≡ map (local_width narrow.now (table_of types.now) body.now.ops) (locals_of body.now)) }
+    ensures size { IfOk result (λ widths. length widths.items ≡ body.now.max_locals) }
+{
+    let heights = heights(alloc, body.ops.as_slice(), types)?;
+    widths_at(alloc, body, narrow, heights.as_slice())
 }

@@ -1,5 +1,6 @@
 -- One more local takes its cells.
-use Rattle.std.proofs.Common.{map, false, length, sym, ap, ◌∙◌, arith}
+use Rattle.std.proofs.Common.{◌∷◌, [], map, false, length, sym, ap, ◌∙◌, arith}
+use Rattle.std.proofs.lemmas.List.{length-append}
 use Rattle.std.proofs.lemmas.List.FromFn.{get_or-map-range_with_len}
 use Rattle.insn_form.specs.declared.ValueKind.TheVariants as value_kind
 use Rattle.image_instr.specs.declared.insn.Width.TheVariants as width
@@ -16,13 +17,18 @@ bounds-marks-index c =
     omega (arith, size, same)
 
 pub loop-local-preserved : goal.loop-local-preserved
-loop-local-preserved c = λ all widths.
+loop-local-preserved c =
     let body = c.args.body.now in
     let local = c.loop-local.local in
     let marked = mark_at body.max_locals (is_stored value_kind.Int body) c.in_ok-marks.marks.items c.in_ok-marks.ensures local false c.loop-local-test.true in
     let mark = at_same c.as_slice-marks.result.now c.in_ok-marks.marks.items c.from-index.result local false c.as_slice-marks.ensures.value c.from-index.ensures in
-    let wide =
-    at_same c.args.widths.now (map all.local (locals_of body)) c.from-index.result local width.One widths c.from-index.ensures
-    ∙ get_or-map-range_with_len all.local 0 body.max_locals local local width.One c.loop-local-test.true (omega arith)
-    in
-    one_more (cell_taken body all) local c.loop-local.taken.items c.push.new.self.items c.cell_taken.result c.in-Ok.ensures.items (c.loop-local.invariant all widths) (c.cell_taken.ensures all (sym wide) (mark ∙ marked))
+    let grown = ap length c.in-Ok.ensures.items ∙ length-append c.loop-local.taken.items (c.cell_taken.result ∷ []) in
+    record {
+      size = omega (arith, grown);
+      taken = λ all widths.
+          let wide =
+          at_same c.args.widths.now (map all.local (locals_of body)) c.from-index.result local width.One widths c.from-index.ensures
+          ∙ get_or-map-range_with_len all.local 0 body.max_locals local local width.One c.loop-local-test.true (omega arith)
+          in
+          one_more (cell_taken body all) local c.loop-local.taken.items c.push.new.self.items c.cell_taken.result c.in-Ok.ensures.items (c.loop-local.invariant.taken all widths) (c.cell_taken.ensures all (sym wide) (mark ∙ marked));
+    }
