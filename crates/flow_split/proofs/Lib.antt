@@ -21,3 +21,4 @@ pub mod Filling
 pub mod Greatest
 pub mod MostKnown
 pub mod Naming
+pub mod Laying

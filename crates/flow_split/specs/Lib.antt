@@ -7,3 +7,4 @@ pub mod Splits
 pub mod Totals
 pub mod Walks
 pub mod Taken
+pub mod Measures

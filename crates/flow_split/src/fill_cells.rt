@@ -1,16 +1,21 @@
 //! The greatest number of operand cells where parameters are extended.
 
-ghost use Rattle.std.specs.Prelude.{◌≡◌};
+ghost use Rattle.std.specs.Prelude.{◌≡◌, ◌≤◌, length};
 ghost use Rattle.std.specs.List.{flat_map};
 ghost use Rattle.image_form.specs.Library.{signature};
+ghost use Rattle.body_form.specs.declared.body.Body.{Body as MethodBody};
+ghost use Rattle.jvm_model.specs.WidthsShapes.{Widths};
+ghost use Rattle.jvm_model.specs.WidthsSlots.{fills_of};
 ghost use Rattle.jvm_model.specs.WidthsFrame.{most_operands, fill_insns};
+ghost use Rattle.flow_split.specs.Taken.{cells_taken_of};
 
-use jvm_model::Fill;
+use crate::taken::{Taken, counted};
 
-/// The greatest number of operand cells at entry: two where a parameter is extended.
-#[tactic(auto, using(crate::proofs::Filling::no_fills, crate::proofs::Filling::some_fills))]
-pub(crate) fn fill_cells(fills: &[Fill]) -> u64
-    ensures { result ≡ most_operands (signature 0 0 0) 0 (flat_map fill_insns fills.now) }
+/// The greatest number of operand cells at entry, where locals take these cells: two where a parameter is extended.
+#[tactic(auto, using(crate::proofs::Filling::none_extended, crate::proofs::Filling::some_extended))]
+pub(crate) fn fill_cells(cells: &[Taken]) -> u64
+    requires { length cells.now ≤ 65535 }
+    ensures { (body : MethodBody) (widths : Widths) → cells.now ≡ cells_taken_of body widths → result ≡ most_operands (signature 0 0 0) 0 (flat_map fill_insns (fills_of body widths)) }
 {
-    if fills.is_empty() { 0 } else { 2 }
+    if counted(cells).extended == 0 { 0 } else { 2 }
 }

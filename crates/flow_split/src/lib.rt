@@ -1,6 +1,6 @@
 //! How the frame of a method is laid out: the slots of its references, the cells of its whole numbers, and how many
-//! cells its operands take at most. What a plan is stands in `jvm_model`, in specs/WidthsFrame.antt. This crate stands
-//! on `expansion`, `type_table`, `jvm_model`, `image_instr`, `body_form`, `insn_form` and `class_pool`.
+//! cells its operands take at most. The main call is `split`. What a plan is stands in `jvm_model`, in
+//! specs/WidthsFrame.antt, and what is asked and refused in specs/Splits.antt. This crate stands on `expansion`, `type_table`, `jvm_model`, `image_instr`, `body_form`, `insn_form` and `class_pool`.
 #![tactic(auto)]
 
 mod calls;
@@ -9,6 +9,7 @@ mod entries;
 mod families;
 mod fill_cells;
 mod fills;
+mod frame;
 mod heights;
 mod instructions;
 mod kinds;
@@ -28,5 +29,6 @@ mod totals;
 mod walk;
 mod widths;
 
+pub use frame::split;
 pub use moves::{Move, moves_are_enough};
 pub use refusal::SplitRefusal;
