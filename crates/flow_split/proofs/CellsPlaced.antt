@@ -10,13 +10,13 @@ use Rattle.insn_form.specs.declared.ValueKind.TheVariants as value_kind
 use Rattle.image_instr.specs.declared.insn.Width.{Width}
 use Rattle.image_instr.specs.declared.insn.Width.TheVariants as width
 use Rattle.body_form.specs.declared.body.Body.{Body}
-use Rattle.flow_split.specs.declared.taken.Taken.{Taken}
+use Rattle.flow_split.specs.declared.shares.Share.{Share}
 use Rattle.jvm_model.specs.WidthsSlots.{Room, room_cells, first_cell}
 use Rattle.jvm_model.specs.WidthsShapes.{Widths}
 use Rattle.jvm_model.specs.WidthsSlots.{is_stored, locals_of, parameter_at, is_parameter, is_small, passed_cells, is_extended, is_two, passed, extended, stored, cell_of, cell_count}
 use Rattle.jvm_model.specs.Initialisers.{is_whole_kind}
 use Rattle.image_instr.specs.Effect.{cells_in}
-use Rattle.flow_split.specs.Taken.{taken_in, passed_in, extended_in, place_at, places_of, cell_taken, cells_taken_of}
+use Rattle.flow_split.specs.Shares.{total_in, passed_in, extended_in, position_at, positions_of, cell_share, cell_shares_of}
 use Rattle.flow_split.proofs.Placing.{Takes, places_are, extended_first, at_extended, extended_place, passed_first, stored_first, at_stored, not_later, at_passed, no_room, at_none, cells_in_all, cells_append}
 
 -- a type passes cells exactly where it is a whole number
@@ -75,8 +75,8 @@ or_second : (first second : Option ℕ) → first ≡ None → option_or first s
 or_second first second is = ap (λ (o : Option ℕ). option_or o second) is
 
 module _ (body : Body) (widths : Widths) where
-  abbrev f : ℕ → Taken
-  f = cell_taken body widths
+  abbrev f : ℕ → Share
+  f = cell_share body widths
 
   abbrev passes : ℕ → Bool
   passes = is_parameter is_whole_kind body
@@ -108,7 +108,7 @@ module _ (body : Body) (widths : Widths) where
   abbrev later : ℕ → Option ℕ
   later k = first_cell (room_cells (passed body)) (extended body widths ++ stored body widths) k
 
-  place_with : (k : ℕ) → k < count → (e s p : Bool) → is_extended body widths k ≡ e → stores k ≡ s → passes k ≡ p → place_at (cells_taken_of body widths) k ≡ cell_of body widths k
+  place_with : (k : ℕ) → k < count → (e s p : Bool) → is_extended body widths k ≡ e → stores k ≡ s → passes k ≡ p → position_at (cell_shares_of body widths) k ≡ cell_of body widths k
   place_with k within true s p is _ _ =
       sym (or_first (later k) (first_cell 0 (passed body) k) _ (extended_first f count passes (is_extended body widths) stores passed_size two stored_size passed_takes extended_takes stored_takes k within is)
       ∙ at_extended f count passes (is_extended body widths) stores passed_size two stored_size passed_takes extended_takes stored_takes k within is)
@@ -124,10 +124,10 @@ module _ (body : Body) (widths : Widths) where
       ∙ sym (or_second (later k) (first_cell 0 (passed body) k) (not_later f count passes (is_extended body widths) stores passed_size two stored_size passed_takes extended_takes stored_takes k not_extended not_stored (room_cells (passed body)))
       ∙ no_room f count passes (is_extended body widths) stores passed_size two stored_size passed_takes extended_takes stored_takes k not_extended not_stored fails)
 
-  pub cell_placed : (k : ℕ) → k < count → place_at (cells_taken_of body widths) k ≡ cell_of body widths k
+  pub cell_placed : (k : ℕ) → k < count → position_at (cell_shares_of body widths) k ≡ cell_of body widths k
   cell_placed k within = place_with k within (is_extended body widths k) (stores k) (passes k) refl refl refl
 
-  pub cells_placed : places_of (cells_taken_of body widths) ≡ map (cell_of body widths) (locals_of body)
+  pub cells_placed : positions_of (cell_shares_of body widths) ≡ map (cell_of body widths) (locals_of body)
   cells_placed = places_are f count (cell_of body widths) cell_placed
 
   -- where a parameter that is extended is passed, and where it is kept
@@ -144,11 +144,11 @@ module _ (body : Body) (widths : Widths) where
       passed_first f count passes (is_extended body widths) stores passed_size two stored_size passed_takes extended_takes stored_takes k within
       (small_passes (parameter_at body k) (and_first (is_parameter is_small body k) (is_two (widths.local k)) is))
 
-  pub kept_to : (k : ℕ) → k < count → is_extended body widths k ≡ true → cell_of body widths k ≡ Some (passed_in (cells_taken_of body widths) + extended_in (map f (range_with_len 0 k)))
+  pub kept_to : (k : ℕ) → k < count → is_extended body widths k ≡ true → cell_of body widths k ≡ Some (passed_in (cell_shares_of body widths) + extended_in (map f (range_with_len 0 k)))
   kept_to k within is =
       sym (cell_placed k within) ∙ extended_place f count passes (is_extended body widths) stores passed_size two stored_size passed_takes extended_takes stored_takes k within is
 
-  pub cells_counted : taken_in (cells_taken_of body widths) ≡ cell_count body widths
+  pub cells_counted : total_in (cell_shares_of body widths) ≡ cell_count body widths
   cells_counted =
       let sums = cells_in_all f count passes (is_extended body widths) stores passed_size two stored_size passed_takes extended_takes stored_takes in
       let both = cells_append (extended body widths) (stored body widths) in

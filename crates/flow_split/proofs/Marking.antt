@@ -5,7 +5,7 @@ use Rattle.std.proofs.lemmas.Bool.Decides.{nat_tests}
 use Rattle.std.proofs.lemmas.List.{length-set, get_or-set_same, get_or-set_other}
 use Rattle.std.proofs.lemmas.List.FromFn.{length-map-range_with_len, get_or-map-range_with_len, fill_by_all}
 use Rattle.std.proofs.lemmas.List.Folds.{list_any_more}
-use Rattle.flow_split.specs.Taken.{AreMarks}
+use Rattle.flow_split.specs.Shares.{AreMarks}
 
 module _ (count : ℕ) (test : ℕ → Bool) (marks : List Bool) (are : AreMarks count test marks) where
   pub long : length marks ≡ count

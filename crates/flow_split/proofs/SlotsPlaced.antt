@@ -7,10 +7,10 @@ use Rattle.std.proofs.lemmas.List.{map-append, length-append}
 use Rattle.std.proofs.lemmas.List.Sums.{sum_by-cons}
 use Rattle.insn_form.specs.declared.ValueKind.TheVariants as value_kind
 use Rattle.body_form.specs.declared.body.Body.{Body}
-use Rattle.flow_split.specs.declared.taken.Taken.{Taken}
+use Rattle.flow_split.specs.declared.shares.Share.{Share}
 use Rattle.jvm_model.specs.WidthsSlots.{Room, room_cells, first_cell}
 use Rattle.jvm_model.specs.WidthsSlots.{is_stored, locals_of, is_reference_parameter, slot_of, slot_count}
-use Rattle.flow_split.specs.Taken.{taken_in, place_at, places_of, slot_taken, slots_taken_of}
+use Rattle.flow_split.specs.Shares.{total_in, position_at, positions_of, slot_share, slot_shares_of}
 use Rattle.flow_split.proofs.RoomsFound.{rooms_where, skipped}
 use Rattle.flow_split.proofs.Placing.{Takes, places_are, then_case, some, at_stored, not_later, at_passed, at_none, cells_in_all}
 
@@ -55,8 +55,8 @@ not_first true second is = absurd (false≢true is)
 not_first false second is = refl
 
 module _ (body : Body) where
-  abbrev f : ℕ → Taken
-  f = slot_taken body
+  abbrev f : ℕ → Share
+  f = slot_share body
 
   abbrev passes : ℕ → Bool
   passes = is_reference_parameter body
@@ -107,7 +107,7 @@ module _ (body : Body) where
       slot_first k ∙ skipped passes one 0 (locals_of body) (ones second) k fails
       ∙ ap (λ (rooms : List Room). first_cell (0 + room_cells (ones first)) (rooms ++ ones second) k) (sym middle)
 
-  place_with : (k : ℕ) → k < count → (s p : Bool) → stores k ≡ s → passes k ≡ p → place_at (slots_taken_of body) k ≡ slot_of body k
+  place_with : (k : ℕ) → k < count → (s p : Bool) → stores k ≡ s → passes k ≡ p → position_at (slot_shares_of body) k ≡ slot_of body k
   place_with k within true p is _ =
       sym (after_first k (not_first (passes k) (is_stored value_kind.Ref body k) is)
       ∙ ap (λ n. first_cell n (rooms_where never one (locals_of body) ++ ones second) k) (omega arith)
@@ -118,10 +118,10 @@ module _ (body : Body) where
       at_none f count passes never stores one one one passed_takes extended_takes stored_takes k within refl not_stored fails
       ∙ sym (after_first k fails ∙ not_later f count passes never stores one one one passed_takes extended_takes stored_takes k refl not_stored (0 + room_cells (ones first)))
 
-  pub slots_placed : places_of (slots_taken_of body) ≡ map (slot_of body) (locals_of body)
+  pub slots_placed : positions_of (slot_shares_of body) ≡ map (slot_of body) (locals_of body)
   slots_placed = places_are f count (slot_of body) (λ k within. place_with k within (stores k) (passes k) refl refl)
 
-  pub slots_counted : taken_in (slots_taken_of body) ≡ slot_count body
+  pub slots_counted : total_in (slot_shares_of body) ≡ slot_count body
   slots_counted =
       let sums = cells_in_all f count passes never stores one one one passed_takes extended_takes stored_takes in
       let none = ap room_cells middle in

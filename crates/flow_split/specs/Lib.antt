@@ -6,5 +6,5 @@ pub mod Peaks
 pub mod Splits
 pub mod Totals
 pub mod Walks
-pub mod Taken
 pub mod Measures
+pub mod Shares

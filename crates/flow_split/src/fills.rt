@@ -4,21 +4,21 @@ ghost use Rattle.std.specs.Prelude.{◌≡◌, ◌≤◌, ◌++◌, if◌then◌
 ghost use Rattle.std.specs.Option.{option_to_list};
 ghost use Rattle.jvm_model.specs.WidthsShapes.{Widths};
 ghost use Rattle.jvm_model.specs.WidthsSlots.{is_parameter, is_char, fills_of};
-ghost use Rattle.flow_split.specs.Taken.{taken_in, cells_taken_of};
+ghost use Rattle.flow_split.specs.Shares.{total_in, cell_shares_of};
 
 use crate::parameters::is_char_parameter;
-use crate::taken::{Counts, Taken, after, counted};
+use crate::shares::{Counts, Share, after, counts_of};
 use body_form::Body;
 use jvm_model::Fill;
 use std::alloc::{AllocError, Global};
 
 /// How a local is extended, if it is, where so many cells come before those of each kind.
-fn fill(body: &Body, local: u16, next: Counts, taken: Taken) -> Option<Fill>
+fn fill(body: &Body, local: u16, next: Counts, share: Share) -> Option<Fill>
     requires passed { next.passed ≤ 32767 }
     requires extended { next.extended ≤ 32767 }
-    ensures { result ≡ (if nat_lt 0 taken.extended then Some (record { from = next.passed; to = next.extended; zero = is_parameter is_char body.now local }) else None) }
+    ensures { result ≡ (if nat_lt 0 share.extended then Some (record { from = next.passed; to = next.extended; zero = is_parameter is_char body.now local }) else None) }
 {
-    if taken.extended > 0 {
+    if share.extended > 0 {
         Some(Fill {
             from: next.passed as u16,
             to: next.extended as u16,
@@ -43,13 +43,13 @@ fn append(fills: &mut Vec<Fill>, fill: Option<Fill>) -> Result<(), AllocError>
 }
 
 /// How the locals of small parameters are extended, in order of these, where each local takes these cells.
-pub(crate) fn fills(alloc: Global, body: &Body, taken: &[Taken]) -> Result<Vec<Fill>, AllocError>
-    requires size { length taken.now ≡ body.now.max_locals }
-    requires small { taken_in taken.now ≤ 32767 }
-    ensures { IfOk result (λ fills. (widths : Widths) → taken.now ≡ cells_taken_of body.now widths → fills.items ≡ fills_of body.now widths) }
+pub(crate) fn fills(alloc: Global, body: &Body, shares: &[Share]) -> Result<Vec<Fill>, AllocError>
+    requires size { length shares.now ≡ body.now.max_locals }
+    requires small { total_in shares.now ≤ 32767 }
+    ensures { IfOk result (λ fills. (widths : Widths) → shares.now ≡ cell_shares_of body.now widths → fills.items ≡ fills_of body.now widths) }
 {
     let count = body.max_locals;
-    let all = counted(taken);
+    let all = counts_of(shares);
     let mut next = Counts {
         passed: 0,
         extended: all.passed,
@@ -57,7 +57,7 @@ pub(crate) fn fills(alloc: Global, body: &Body, taken: &[Taken]) -> Result<Vec<F
     };
     let mut fills = Vec::new(alloc);
     for local in 0..count {
-        let cells = taken[usize::from(local)];
+        let cells = shares[usize::from(local)];
         match append(&mut fills, fill(body, local, next, cells)) {
             Ok(()) => {}
             Err(why) => return Err(why),

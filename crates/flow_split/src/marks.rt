@@ -4,7 +4,7 @@ ghost use Rattle.std.specs.Prelude.{◌≡◌, ◌||◌, ℕ, Bool, false, nat_e
 ghost use Rattle.std.specs.Option.{option_map_or};
 ghost use Rattle.std.specs.List.{list_any};
 ghost use Rattle.jvm_model.specs.WidthsSlots.{is_store, is_stored, locals_of};
-ghost use Rattle.flow_split.specs.Taken.{AreMarks};
+ghost use Rattle.flow_split.specs.Shares.{AreMarks};
 
 use body_form::{Body, Op};
 use insn_form::ValueKind;
@@ -46,7 +46,7 @@ fn mark_stores(marks: &mut Vec<bool>, kind: ValueKind, ops: &[(u32, Op)])
 }
 
 /// For each local, whether an instruction stores so in it.
-pub(crate) fn stored(alloc: Global, kind: ValueKind, body: &Body) -> Result<Vec<bool>, AllocError>
+pub(crate) fn stored_marks(alloc: Global, kind: ValueKind, body: &Body) -> Result<Vec<bool>, AllocError>
     ensures { IfOk result (λ marks. marks.items ≡ map (is_stored kind body.now) (locals_of body.now)) }
 {
     let mut marks = vec![in alloc; false; usize::from(body.max_locals)]?;

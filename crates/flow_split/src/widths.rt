@@ -9,7 +9,7 @@ ghost use Rattle.jvm_model.specs.WidthsShapes.{height_at, is_local_entry, stores
 ghost use Rattle.jvm_model.specs.WidthsSlots.{locals_of};
 ghost use Rattle.type_table.specs.Types.{table_of};
 ghost use Rattle.flow_split.specs.Splits.{comes_before};
-ghost use Rattle.flow_split.specs.Taken.{AreMarks};
+ghost use Rattle.flow_split.specs.Shares.{AreMarks};
 
 use crate::entries::has_entry;
 use crate::heights::heights;

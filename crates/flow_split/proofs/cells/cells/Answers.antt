@@ -1,8 +1,8 @@
 use Rattle.std.proofs.Common.{ap, ◌∙◌}
 use Rattle.std.proofs.lemmas.Result.{IfOk-weaker}
-use Rattle.flow_split.specs.Taken.{places_of}
+use Rattle.flow_split.specs.Shares.{positions_of}
 use Rattle.flow_split.proofs.CellsPlaced.{cells_placed}
 use Rattle.flow_split.proofs.cells.cells.Goals as goal
 
 pub returns : goal.returns
-returns c = IfOk-weaker c.places.result _ _ (λ cells placed body widths is. placed ∙ ap places_of is ∙ cells_placed body widths) c.places.ensures
+returns c = IfOk-weaker c.positions.result _ _ (λ cells placed body widths is. placed ∙ ap positions_of is ∙ cells_placed body widths) c.positions.ensures

@@ -1,21 +1,21 @@
 -- One more local.
 use Rattle.std.proofs.Common.{◌<◌, ℕ, length, get_or, ap, arith}
 use Rattle.std.proofs.lemmas.List.Sums.{sum_by_more}
-use Rattle.flow_split.specs.declared.taken.Taken.{Taken}
+use Rattle.flow_split.specs.declared.shares.Share.{Share}
 use Rattle.flow_split.proofs.FillsMade.{fill_append}
 use Rattle.flow_split.proofs.fills.fills.Goals as goal
 
 pub loop-local-preserved : goal.loop-local-preserved
 loop-local-preserved c =
-    let locals = c.args.taken.now in
+    let locals = c.args.shares.now in
     let i = c.loop-local.local in
-    let none : Taken = record { passed = 0; extended = 0; stored = 0 } in
+    let none : Share = record { passed = 0; extended = 0; stored = 0 } in
     let within : i < length locals = omega arith in
     let here = ap (λ (k : ℕ). get_or locals k none) c.from.ensures in
-    let passed_here = ap (λ (t : Taken). t.passed) here in
-    let extended_here = ap (λ (t : Taken). t.extended) here in
-    let passed = sum_by_more (λ (t : Taken). t.passed) locals i none within in
-    let extended = sum_by_more (λ (t : Taken). t.extended) locals i none within in
+    let passed_here = ap (λ (t : Share). t.passed) here in
+    let extended_here = ap (λ (t : Share). t.extended) here in
+    let passed = sum_by_more (λ (t : Share). t.passed) locals i none within in
+    let extended = sum_by_more (λ (t : Share). t.extended) locals i none within in
     record {
       passed = omega (arith, passed, passed_here);
       extended = omega (arith, extended, extended_here);

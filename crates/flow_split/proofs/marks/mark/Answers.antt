@@ -1,7 +1,7 @@
 -- A local past the marks marks none.
 use Rattle.std.proofs.Common.{◌||◌, nat_eq, Bool, false, ℕ, List, Option, set, true, subst, sym, arith}
 use Rattle.std.specs.Option.{option_map_or}
-use Rattle.flow_split.specs.Taken.{AreMarks}
+use Rattle.flow_split.specs.Shares.{AreMarks}
 use Rattle.flow_split.proofs.Marking.{marked, marked_past, unmarked}
 use Rattle.flow_split.proofs.marks.mark.Goals as goal
 

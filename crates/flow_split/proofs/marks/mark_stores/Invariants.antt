@@ -1,7 +1,7 @@
 use Rattle.std.proofs.Common.{◌||◌, ℕ, Bool, take}
 use Rattle.std.specs.List.{list_any}
 use Rattle.jvm_model.specs.WidthsSlots.{is_store}
-use Rattle.flow_split.specs.Taken.{AreMarks}
+use Rattle.flow_split.specs.Shares.{AreMarks}
 use Rattle.flow_split.proofs.marks.mark_stores.Given as goal
 
 abbrev pub invariant-loop-x : goal.invariant-loop-x

@@ -1,7 +1,7 @@
 use Rattle.std.proofs.Common.{◌||◌, ℕ, Bool, take}
 use Rattle.std.specs.List.{list_any}
 use Rattle.jvm_model.specs.WidthsShapes.{is_local_entry}
-use Rattle.flow_split.specs.Taken.{AreMarks}
+use Rattle.flow_split.specs.Shares.{AreMarks}
 use Rattle.flow_split.proofs.widths.mark_entries.Given as goal
 
 abbrev pub invariant-loop-entry : goal.invariant-loop-entry

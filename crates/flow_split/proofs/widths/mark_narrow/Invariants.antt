@@ -2,7 +2,7 @@ use Rattle.std.proofs.Common.{◌≡◌, ◌||◌, ℕ, Bool, map, take}
 use Rattle.std.specs.List.{list_any}
 use Rattle.jvm_model.specs.TypesRight.{Table}
 use Rattle.jvm_model.specs.WidthsShapes.{height_at, stores_one}
-use Rattle.flow_split.specs.Taken.{AreMarks}
+use Rattle.flow_split.specs.Shares.{AreMarks}
 use Rattle.flow_split.proofs.widths.mark_narrow.Given as goal
 
 abbrev pub invariant-loop-index : goal.invariant-loop-index

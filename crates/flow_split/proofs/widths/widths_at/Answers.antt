@@ -7,7 +7,7 @@ use Rattle.image_instr.specs.declared.insn.Width.{Width}
 use Rattle.body_form.specs.declared.op.Op.{Op}
 use Rattle.jvm_model.specs.TypesRight.{Table}
 use Rattle.jvm_model.specs.WidthsShapes.{is_local_entry, stores_one, width_where, height_at}
-use Rattle.flow_split.specs.Taken.{AreMarks}
+use Rattle.flow_split.specs.Shares.{AreMarks}
 use Rattle.flow_split.proofs.Marking.{none_marked}
 use Rattle.flow_split.proofs.widths.widths_at.Goals as goal
 

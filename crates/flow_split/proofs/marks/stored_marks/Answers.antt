@@ -4,7 +4,7 @@ use Rattle.std.specs.List.{list_any}
 use Rattle.body_form.specs.declared.op.Op.{Op}
 use Rattle.jvm_model.specs.WidthsSlots.{is_store, locals_of}
 use Rattle.flow_split.proofs.Marking.{none_marked}
-use Rattle.flow_split.proofs.marks.stored.Goals as goal
+use Rattle.flow_split.proofs.marks.stored_marks.Goals as goal
 
 pub returns : goal.returns
 returns c =
