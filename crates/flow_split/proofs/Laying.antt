@@ -1,5 +1,5 @@
 -- What is measured is what the frame takes.
-use Rattle.std.proofs.Common.{◌≡◌, ℕ, ◌+◌, List, Option, sym, ap, ◌∙◌, arith}
+use Rattle.std.proofs.Common.{◌≡◌, ℕ, ◌+◌, List, Option, ap, ◌∙◌}
 use Rattle.body_form.specs.declared.body.Body.{Body}
 use Rattle.jvm_model.specs.declared.entries.Entry.{Entry}
 use Rattle.jvm_model.specs.declared.plan.Fill.{Fill}
@@ -10,7 +10,7 @@ use Rattle.jvm_model.specs.WidthsSlots.{slot_count, cell_count}
 use Rattle.jvm_model.specs.WidthsFrame.{frame_cells}
 use Rattle.flow_split.specs.declared.frame.Measured.{Measured}
 use Rattle.flow_split.specs.Measures.{IsMeasured, cells_measured}
-use Rattle.flow_split.specs.Taken.{taken_in}
+use Rattle.flow_split.specs.Shares.{total_in}
 use Rattle.flow_split.proofs.SlotsPlaced.{slots_counted}
 use Rattle.flow_split.proofs.CellsPlaced.{cells_counted}
 
@@ -19,9 +19,9 @@ plan narrow refs cells fills slots places all = record { narrow = narrow; refs =
 
 pub measured_cells : (body : Body) (table : Table) (widths : Widths) (measured : Measured) → IsMeasured body table widths measured → cells_measured measured ≡ frame_cells body widths table
 measured_cells body table widths measured is =
-    let slots = ap taken_in is.slots ∙ slots_counted body in
-    let cells = ap taken_in is.cells ∙ cells_counted body widths in
-    ap (λ n. 4 + (n + (taken_in measured.cells.items + measured.most))) slots
+    let slots = ap total_in is.slots ∙ slots_counted body in
+    let cells = ap total_in is.cells ∙ cells_counted body widths in
+    ap (λ n. 4 + (n + (total_in measured.cells.items + measured.most))) slots
     ∙ ap (λ n. 4 + (slot_count body + (n + measured.most))) cells
     ∙ ap (λ n. 4 + (slot_count body + (cell_count body widths + n))) is.most
 

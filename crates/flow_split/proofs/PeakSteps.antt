@@ -1,5 +1,5 @@
 -- A run of moves goes on.
-use Rattle.std.proofs.Common.{◌≡◌, ℕ, zero, suc, ◌+◌, ◌-◌, ◌<◌, ◌≤◌, max, min, Bool, true, false, cond, ◌&&◌, List, [], ◌∷◌, ◌++◌, length, reverse, drop, get_or, refl, sym, ap, ◌∙◌, arith}
+use Rattle.std.proofs.Common.{◌≡◌, ℕ, zero, suc, ◌+◌, ◌-◌, ◌≤◌, max, min, ◌&&◌, List, [], ◌∷◌, ◌++◌, length, drop, refl, ap, ◌∙◌, arith}
 use Rattle.class_pool.specs.declared.descriptor.Kind.{Kind as DeclaredKind}
 use Rattle.image_instr.specs.declared.insn.Kind.{Kind}
 use Rattle.image_instr.specs.declared.insn.Kind.TheVariants as kind

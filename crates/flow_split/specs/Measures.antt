@@ -5,12 +5,12 @@ use Rattle.jvm_model.specs.TypesRight.{Table}
 use Rattle.jvm_model.specs.WidthsShapes.{Widths}
 use Rattle.jvm_model.specs.WidthsFrame.{most_in}
 use Rattle.flow_split.specs.declared.frame.Measured.{Measured}
-use Rattle.flow_split.specs.Taken.{slots_taken_of, cells_taken_of, taken_in}
+use Rattle.flow_split.specs.Shares.{slot_shares_of, cell_shares_of, total_in}
 
 -- what each local takes of the slots and of the cells, and the greatest number of operand cells
 pub record IsMeasured (body : Body) (table : Table) (widths : Widths) (measured : Measured) : Type 0 where
-  pub slots : measured.slots.items ≡ slots_taken_of body
-  pub cells : measured.cells.items ≡ cells_taken_of body widths
+  pub slots : measured.slots.items ≡ slot_shares_of body
+  pub cells : measured.cells.items ≡ cell_shares_of body widths
   pub most : measured.most ≡ most_in body widths table
 
 -- there are as many locals as a number of two bytes counts
@@ -20,4 +20,4 @@ pub record AreFew (measured : Measured) : Type 0 where
 
 -- the cells of the frame, its header among them
 abbrev pub cells_measured : Measured → ℕ
-cells_measured measured = 4 + (taken_in measured.slots.items + (taken_in measured.cells.items + measured.most))
+cells_measured measured = 4 + (total_in measured.slots.items + (total_in measured.cells.items + measured.most))

@@ -8,14 +8,14 @@ ghost use Rattle.jvm_model.specs.WidthsFrame.{frame_cells, most_frame_cells, mos
 ghost use Rattle.type_table.specs.Types.{table_of};
 ghost use Rattle.flow_split.specs.Measures.{AreFew, IsMeasured, cells_measured};
 ghost use Rattle.flow_split.specs.Splits.{AreEntries, AreNamed, AreRows, IsTooLarge};
-ghost use Rattle.flow_split.specs.Taken.{cells_taken_of, taken_in};
+ghost use Rattle.flow_split.specs.Shares.{cell_shares_of, total_in};
 
-use crate::cells::{cells, cells_taken};
+use crate::cells::{cells, cell_shares};
 use crate::fill_cells::fill_cells;
 use crate::fills::fills;
 use crate::refusal::SplitRefusal;
-use crate::slots::{slots, slots_taken};
-use crate::taken::{Taken, total};
+use crate::slots::{slots, slot_shares};
+use crate::shares::{Share, total};
 use crate::walk::most_anywhere;
 use crate::widths::local_widths;
 use body_form::Body;
@@ -31,8 +31,8 @@ const MOST_FRAME_CELLS: u32 = 32_767;
 /// What each local takes of the slots and of the cells of a frame, and the greatest number of operand cells.
 #[derive(Debug, Drop)]
 pub(crate) struct Measured {
-    pub(crate) slots: Vec<Taken>,
-    pub(crate) cells: Vec<Taken>,
+    pub(crate) slots: Vec<Share>,
+    pub(crate) cells: Vec<Share>,
     pub(crate) most: u64,
 }
 
@@ -51,13 +51,13 @@ fn most_operand_cells(
     types: &Types,
     narrow: &[Entry],
     widths: &[Width],
-    cells: &[Taken],
+    cells: &[Share],
 ) -> Result<u64, Memory>
     requires rows { AreRows body.now types.now }
     requires entries { AreEntries types.now narrow.now }
     requires named { AreNamed body.now types.now }
     requires widths { widths.now ≡ map (local_width narrow.now (table_of types.now) body.now.ops) (locals_of body.now) }
-    requires cells { cells.now ≡ cells_taken_of body.now (widths_of narrow.now (table_of types.now) body.now.ops) }
+    requires cells { cells.now ≡ cell_shares_of body.now (widths_of narrow.now (table_of types.now) body.now.ops) }
     requires few { length cells.now ≤ 65535 }
     ensures { IfOk result (λ most. most ≡ most_in body.now (widths_of narrow.now (table_of types.now) body.now.ops) (table_of types.now)) }
 {
@@ -81,8 +81,8 @@ fn measure(
 {
     let _count = local_count(body);
     let widths = local_widths(alloc, body, types, narrow)?;
-    let slots = slots_taken(alloc, body)?;
-    let cells = cells_taken(alloc, body, &widths)?;
+    let slots = slot_shares(alloc, body)?;
+    let cells = cell_shares(alloc, body, &widths)?;
     let most = most_operand_cells(alloc, body, types, narrow, &widths, &cells)?;
     Ok(Measured { slots, cells, most })
 }

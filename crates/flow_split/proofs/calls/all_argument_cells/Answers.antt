@@ -1,5 +1,5 @@
 -- All arguments were counted.
-use Rattle.std.proofs.Common.{◌≡◌, ◌+◌, ◌≤◌, List, take, length, sym, ap, ◌∙◌, arith}
+use Rattle.std.proofs.Common.{◌+◌, List, sym, ap, ◌∙◌}
 use Rattle.std.specs.List.{sum_by, count_by}
 use Rattle.std.proofs.lemmas.List.{take_all}
 use Rattle.std.proofs.lemmas.List.Sums.{length-filter}

@@ -1,15 +1,14 @@
 -- The arguments are popped, and the result is pushed as its kind asks for.
-use Rattle.std.proofs.Common.{◌≡◌, ℕ, ◌+◌, ◌++◌, Bool, true, false, cond, not, List, [], ◌∷◌, map, filter, length, Option, if◌then◌else◌, sym, ap, ◌∙◌, arith}
+use Rattle.std.proofs.Common.{◌≡◌, ℕ, ◌+◌, ◌++◌, cond, not, List, [], ◌∷◌, map, filter, length, Option, sym, ap, ◌∙◌, arith}
 use Rattle.std.specs.List.{sum_by}
 use Rattle.std.specs.Option.{option_map_or}
 use Rattle.class_pool.specs.declared.descriptor.Kind.{Kind}
-use Rattle.image_instr.specs.declared.signature.Effect.{Effect}
 use Rattle.image_instr.specs.declared.insn.Kind.{Kind as Shape}
 use Rattle.image_instr.specs.Effect.{called, effect_of, refs_of, cells_of}
 use Rattle.jvm_model.specs.Initialisers.{is_reference_kind}
-use Rattle.jvm_model.specs.ImageExpansion.{Emitted, alone, kind_in, read_as}
+use Rattle.jvm_model.specs.ImageExpansion.{alone, kind_in, read_as}
 use Rattle.jvm_model.specs.WidthsSlots.{passed_cells}
-use Rattle.jvm_model.specs.WidthsFrame.{signature_for, result_code, popped, pushed}
+use Rattle.jvm_model.specs.WidthsFrame.{signature_for, popped, pushed}
 use Rattle.flow_split.specs.declared.moves.Move.{Move}
 use Rattle.flow_split.specs.Moves.{move_of, moving, is_still}
 use Rattle.flow_split.proofs.PeakSteps.{called_pops, called_pushes}

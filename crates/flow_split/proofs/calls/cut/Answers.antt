@@ -1,5 +1,5 @@
 -- Each turn cuts one more argument.
-use Rattle.std.proofs.Common.{◌≡◌, ◌+◌, ◌-◌, ◌<◌, ◌++◌, ◌∷◌, ◌&&◌, List, [], drop, reverse, length, get_or, sym, ap, ◌∙◌, arith}
+use Rattle.std.proofs.Common.{◌≡◌, ◌+◌, ◌<◌, ◌++◌, ◌∷◌, ◌&&◌, List, drop, reverse, length, get_or, sym, ap, ◌∙◌, arith}
 use Rattle.std.proofs.lemmas.List.{length-reverse, drop_more, get_or-reverse, append_assoc}
 use Rattle.class_pool.specs.declared.descriptor.Kind.{Kind}
 use Rattle.image_instr.specs.declared.insn.Kind.TheVariants as shape_kind

@@ -6,7 +6,6 @@ use Rattle.jvm_model.specs.ImageExpansion.{alone_where, is_two}
 use Rattle.jvm_model.specs.WidthsSlots.{is_small}
 use Rattle.flow_split.specs.declared.moves.Move.{Move}
 use Rattle.flow_split.specs.declared.peaks.Peak.{Peak}
-use Rattle.flow_split.specs.Moves.{move_of}
 use Rattle.flow_split.specs.Peaks.{most_emitted, moved}
 use Rattle.flow_split.proofs.PeakSteps.{step_emitted}
 use Rattle.flow_split.proofs.calls.cut_one.Goals as goal

@@ -1,9 +1,9 @@
 -- The arguments are cut, and the call follows.
-use Rattle.std.proofs.Common.{◌≡◌, ℕ, ◌++◌, max, reverse, [], List, sym, ap, ◌∙◌}
+use Rattle.std.proofs.Common.{◌++◌, max, reverse, [], List, sym, ap, ◌∙◌}
 use Rattle.std.specs.Option.{option_map_or}
 use Rattle.std.proofs.lemmas.Option.{IfSome_then}
 use Rattle.class_pool.specs.declared.descriptor.Kind.{Kind}
-use Rattle.jvm_model.specs.ImageExpansion.{Emitted, alone, cut_arguments, read_as}
+use Rattle.jvm_model.specs.ImageExpansion.{alone, cut_arguments, read_as}
 use Rattle.jvm_model.specs.WidthsFrame.{signature_used}
 use Rattle.flow_split.specs.declared.peaks.Peak.{Peak}
 use Rattle.flow_split.specs.Peaks.{most_emitted}

@@ -1,5 +1,5 @@
 -- What is measured is what the frame takes.
-use Rattle.std.proofs.Common.{◌≡◌, ◌≤◌, List, refl, ap, subst, sym, ◌∙◌, arith}
+use Rattle.std.proofs.Common.{◌≤◌, List, refl, ap, subst, ◌∙◌}
 use Rattle.jvm_model.specs.declared.entries.Entry.{Entry}
 use Rattle.jvm_model.specs.WidthsShapes.{widths_of}
 use Rattle.jvm_model.specs.WidthsFrame.{frame_cells}

@@ -1,5 +1,5 @@
 -- The pcs rise, so the row of an instruction comes after those of the instructions before it.
-use Rattle.std.proofs.Common.{◌≡◌, ◌<◌, ◌≤◌, ◌+◌, ◌++◌, ◌∷◌, [], ℕ, List, length, map, take, get_or, sym, ap, ◌∙◌, arith}
+use Rattle.std.proofs.Common.{◌++◌, ◌∷◌, [], ℕ, List, map, take, get_or, sym, ap, ◌∙◌, arith}
 use Rattle.std.proofs.lemmas.List.{take_more, map-append}
 use Rattle.body_form.specs.declared.op.Op.{Op}
 use Rattle.body_form.specs.Flow.{pc_at}

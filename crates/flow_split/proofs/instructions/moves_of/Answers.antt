@@ -1,11 +1,10 @@
 -- What an instruction names does not count for its moves.
-use Rattle.std.proofs.Common.{◌≡◌, ℕ, refl, sym, ap, subst, ◌∙◌, ◌++◌, map}
+use Rattle.std.proofs.Common.{◌≡◌, refl, sym, ap, ◌∙◌, ◌++◌, map}
 use Rattle.body_form.specs.declared.op.Op.{Op}
-use Rattle.jvm_model.specs.WidthsShapes.{Point}
 use Rattle.jvm_model.specs.ImageExpansion.{expanded, top_of, write_as, kind_in, alone}
 use Rattle.image_instr.specs.declared.insn.Kind.{Kind}
 use Rattle.image_instr.specs.declared.insn.MInsn.TheVariants as insns
-use Rattle.flow_split.specs.Moves.{move_of, moving, AreMoves}
+use Rattle.flow_split.specs.Moves.{move_of, moving}
 use Rattle.flow_split.proofs.instructions.moves_of.Goals as goal
 
 pub returns-in-IfRef : goal.returns-in-IfRef

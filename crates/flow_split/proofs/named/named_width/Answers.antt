@@ -1,5 +1,5 @@
 -- The width is that of the local that the instruction names.
-use Rattle.std.proofs.Common.{◌≡◌, ℕ, Option, sym, subst, ◌∙◌}
+use Rattle.std.proofs.Common.{◌≡◌, sym, subst, ◌∙◌}
 use Rattle.std.specs.Prelude.{IfSome}
 use Rattle.image_instr.specs.declared.insn.Width.{Width}
 use Rattle.flow_split.specs.Around.{local_named}

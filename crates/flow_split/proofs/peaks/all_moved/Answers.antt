@@ -1,5 +1,5 @@
 -- Each turn makes one more move.
-use Rattle.std.proofs.Common.{◌≡◌, ◌+◌, ◌++◌, List, drop, get_or, sym, ap, ◌∙◌}
+use Rattle.std.proofs.Common.{◌+◌, ◌++◌, List, drop, get_or, sym, ap, ◌∙◌}
 use Rattle.std.proofs.lemmas.List.{drop_more}
 use Rattle.flow_split.specs.declared.moves.Move.{Move}
 use Rattle.flow_split.specs.declared.peaks.Peak.{Peak}

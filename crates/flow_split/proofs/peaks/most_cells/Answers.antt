@@ -1,5 +1,5 @@
 -- After the last move the number of cells itself counts.
-use Rattle.std.proofs.Common.{◌≡◌, [], ap, ◌∙◌, arith}
+use Rattle.std.proofs.Common.{[], ap, ◌∙◌, arith}
 use Rattle.std.proofs.lemmas.List.{append-nil}
 use Rattle.flow_split.specs.Peaks.{most_after}
 use Rattle.flow_split.proofs.PeakSteps.{ends}

@@ -1,5 +1,5 @@
 -- What is copied to the top itself is copied below no operands.
-use Rattle.std.proofs.Common.{◌≡◌, List, [], map, take, refl, sym, ap, ◌∙◌}
+use Rattle.std.proofs.Common.{[], map, take, refl, sym, ap, ◌∙◌}
 use Rattle.insn_form.specs.declared.StackForm.{StackForm}
 use Rattle.jvm_model.specs.ImageExpansion.{restack}
 use Rattle.flow_split.specs.Moves.{move_of, moving}

@@ -1,5 +1,5 @@
 -- Both operands count.
-use Rattle.std.proofs.Common.{◌≡◌, ◌+◌, ap, sym, ◌∙◌, arith, add-one, take, drop}
+use Rattle.std.proofs.Common.{ap, arith, add-one, take, drop}
 use Rattle.image_instr.specs.Effect.{refs_of, cells_of}
 use Rattle.jvm_model.specs.ImageExpansion.{refs_in, cells_in}
 use Rattle.flow_split.proofs.RoomsOf.{two_sums}

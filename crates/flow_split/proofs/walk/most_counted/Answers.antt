@@ -1,5 +1,5 @@
 -- One more instruction counts.
-use Rattle.std.proofs.Common.{◌≡◌, ◌+◌, ℕ, List, max, map, take, get_or, sym, ap, subst, ◌∙◌, arith}
+use Rattle.std.proofs.Common.{◌≡◌, ℕ, max, map, take, get_or, sym, ap, subst, ◌∙◌, arith}
 use Rattle.std.specs.Prelude.{Some, slice_get}
 use Rattle.code_reach.specs.Reached.{RisesFrom}
 use Rattle.body_form.specs.declared.op.Op.{Op}

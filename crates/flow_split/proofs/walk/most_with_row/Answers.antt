@@ -1,5 +1,5 @@
 -- What is known of the row is all that the instruction sees.
-use Rattle.std.proofs.Common.{◌≡◌, ℕ, List, [], Option, take, get_or, sym, ap, ◌∙◌}
+use Rattle.std.proofs.Common.{◌≡◌, ℕ, [], take, get_or, sym, ap, ◌∙◌}
 use Rattle.std.specs.Prelude.{Some, slice_get}
 use Rattle.std.specs.Option.{option_map_or}
 use Rattle.std.proofs.lemmas.Option.{same_Some}

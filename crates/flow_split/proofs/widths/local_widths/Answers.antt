@@ -1,5 +1,5 @@
 -- The heights are those of the table.
-use Rattle.std.proofs.Common.{◌≡◌, ℕ, length, map, ap, ◌∙◌}
+use Rattle.std.proofs.Common.{ℕ, length, map, ap, ◌∙◌}
 use Rattle.std.proofs.lemmas.Result.{IfOk-weaker}
 use Rattle.std.proofs.lemmas.List.FromFn.{length-map-range_with_len}
 use Rattle.body_form.specs.declared.op.Op.{Op}

@@ -1,5 +1,5 @@
 -- One more entry marks its local.
-use Rattle.std.proofs.Common.{◌≡◌, ℕ, false}
+use Rattle.std.proofs.Common.{false}
 use Rattle.jvm_model.specs.declared.entries.Entry.{Entry}
 use Rattle.jvm_model.specs.WidthsShapes.{is_local_entry}
 use Rattle.flow_split.proofs.Marking.{mark_more}

@@ -1,11 +1,9 @@
 -- At first none is marked.
-use Rattle.std.proofs.Common.{◌≡◌, ◌||◌, ℕ, Bool, false, List, map, subst, sym, ap, ◌∙◌}
+use Rattle.std.proofs.Common.{◌||◌, ℕ, false, List, map, subst, sym, ap, ◌∙◌}
 use Rattle.std.specs.List.{list_any, range_with_len}
 use Rattle.std.proofs.lemmas.Result.{IfOk-weaker}
 use Rattle.std.proofs.lemmas.Simd.{map-map}
-use Rattle.image_instr.specs.declared.insn.Width.{Width}
 use Rattle.body_form.specs.declared.op.Op.{Op}
-use Rattle.jvm_model.specs.TypesRight.{Table}
 use Rattle.jvm_model.specs.WidthsShapes.{is_local_entry, stores_one, width_where, height_at}
 use Rattle.flow_split.specs.Shares.{AreMarks}
 use Rattle.flow_split.proofs.Marking.{none_marked}
