@@ -22,3 +22,4 @@ pub mod Greatest
 pub mod MostKnown
 pub mod Naming
 pub mod Laying
+pub mod RightNames

@@ -8,3 +8,4 @@ pub mod Totals
 pub mod Walks
 pub mod Measures
 pub mod Shares
+pub mod SplitLaws

@@ -13,6 +13,7 @@ mod frame;
 mod heights;
 mod instructions;
 mod kinds;
+mod laws;
 mod marks;
 mod most;
 mod moves;
@@ -30,5 +31,6 @@ mod walk;
 mod widths;
 
 pub use frame::split;
+pub use laws::right_types_name_locals;
 pub use moves::{Move, moves_are_enough};
 pub use refusal::SplitRefusal;
