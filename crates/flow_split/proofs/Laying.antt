@@ -29,7 +29,7 @@ measured_cells body table widths measured is =
 pub same_plan : {narrow narrow' : List Entry} {refs refs' cells cells' : List (Option ℕ)} {fills fills' : List Fill} {slots slots' places places' all all' : ℕ}
     → narrow ≡ narrow' → refs ≡ refs' → cells ≡ cells' → fills ≡ fills' → slots ≡ slots' → places ≡ places' → all ≡ all'
     → ◌≡◌ {A = Plan} (record { narrow = narrow; refs = refs; cells = cells; fills = fills; ref_locals = slots; cell_locals = places; body = all })
-      (record { narrow = narrow'; refs = refs'; cells = cells'; fills = fills'; ref_locals = slots'; cell_locals = places'; body = all' })
+    (record { narrow = narrow'; refs = refs'; cells = cells'; fills = fills'; ref_locals = slots'; cell_locals = places'; body = all' })
 same_plan {narrow} {narrow'} {refs} {refs'} {cells} {cells'} {fills} {fills'} {slots} {slots'} {places} {places'} {all} {all'} a b c d e f g =
     ap (λ (x : List Entry). plan x refs cells fills slots places all) a
     ∙ ap (λ (x : List (Option ℕ)). plan narrow' x cells fills slots places all) b

@@ -17,8 +17,12 @@ count_parted p (x ∷ xs) zero point le =
     omega (arith, count_cons p x xs, here, count_parted p xs zero ((λ k d low high. absurd (omega (arith, high))), (λ k d low high. point.1 (suc k) d (omega arith) (omega (arith, high)))) (omega arith))
 count_parted p (x ∷ xs) (suc at) point le =
     let here = ap one_if (point.0 0 x (omega arith) (omega arith)) in
-    omega (arith, count_cons p x xs, here,
-    count_parted p xs at ((λ k d low high. point.0 (suc k) d (omega arith) (omega (arith, high))), (λ k d low high. point.1 (suc k) d (omega (arith, low)) (omega (arith, high)))) (omega (arith, le)))
+    omega (
+      arith,
+      count_cons p x xs,
+      here,
+      count_parted p xs at ((λ k d low high. point.0 (suc k) d (omega arith) (omega (arith, high))), (λ k d low high. point.1 (suc k) d (omega (arith, low)) (omega (arith, high)))) (omega (arith, le)),
+    )
 
 come_step : (pc first_pc first_place second_pc second_place : ℕ) (first second : Bool)
     → (nat_lt first_pc second_pc || (nat_eq first_pc second_pc && ((not first && second) || ((cond first second (not second)) && nat_lt first_place second_place)))) ≡ true

@@ -1,7 +1,5 @@
 -- The greatest number of operand cells of a run of moves that has begun.
-use Rattle.std.specs.Prelude.{◌≡◌, ℕ, ◌+◌, ◌-◌, max, List}
-use Rattle.class_pool.specs.declared.descriptor.Kind.{Kind as DeclaredKind}
-use Rattle.image_instr.specs.declared.insn.Kind.{Kind}
+use Rattle.std.specs.Prelude.{ℕ, ◌+◌, ◌-◌, max, List}
 use Rattle.image_instr.specs.declared.signature.Sig.{Sig}
 use Rattle.jvm_model.specs.ImageExpansion.{Emitted}
 use Rattle.jvm_model.specs.WidthsFrame.{most_operands}

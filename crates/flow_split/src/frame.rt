@@ -10,12 +10,12 @@ ghost use Rattle.flow_split.specs.Measures.{AreFew, IsMeasured, cells_measured};
 ghost use Rattle.flow_split.specs.Splits.{AreEntries, AreNamed, AreRows, IsTooLarge};
 ghost use Rattle.flow_split.specs.Shares.{cell_shares_of, total_in};
 
-use crate::cells::{cells, cell_shares};
+use crate::cells::{cell_shares, cells};
 use crate::fill_cells::fill_cells;
 use crate::fills::fills;
 use crate::refusal::SplitRefusal;
-use crate::slots::{slots, slot_shares};
 use crate::shares::{Share, total};
+use crate::slots::{slot_shares, slots};
 use crate::walk::most_anywhere;
 use crate::widths::local_widths;
 use body_form::Body;
@@ -66,12 +66,7 @@ fn most_operand_cells(
 }
 
 /// Measures what the frame of a method takes.
-fn measure(
-    alloc: Global,
-    body: &Body,
-    types: &Types,
-    narrow: &[Entry],
-) -> Result<Measured, Memory>
+fn measure(alloc: Global, body: &Body, types: &Types, narrow: &[Entry]) -> Result<Measured, Memory>
     requires rows { AreRows body.now types.now }
     requires entries { AreEntries types.now narrow.now }
     requires named { AreNamed body.now types.now }

@@ -46,7 +46,11 @@ fn mark_stores(marks: &mut Vec<bool>, kind: ValueKind, ops: &[(u32, Op)])
 }
 
 /// For each local, whether an instruction stores so in it.
-pub(crate) fn stored_marks(alloc: Global, kind: ValueKind, body: &Body) -> Result<Vec<bool>, AllocError>
+pub(crate) fn stored_marks(
+    alloc: Global,
+    kind: ValueKind,
+    body: &Body,
+) -> Result<Vec<bool>, AllocError>
     ensures { IfOk result (λ marks. marks.items ≡ map (is_stored kind body.now) (locals_of body.now)) }
 {
     let mut marks = vec![in alloc; false; usize::from(body.max_locals)]?;

@@ -64,7 +64,14 @@ fn most_with_row(
     let Some(height) = operand_total(types, ints, narrow, at.index, *pc) else {
         return Err(AllocError);
     };
-    match most_of(height, op, named_width(op, widths), &before, after, &body.result) {
+    match most_of(
+        height,
+        op,
+        named_width(op, widths),
+        &before,
+        after,
+        &body.result,
+    ) {
         Some(most) => Ok(most),
         None => Err(AllocError),
     }
