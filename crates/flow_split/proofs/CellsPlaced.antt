@@ -75,8 +75,8 @@ or_second : (first second : Option ℕ) → first ≡ None → option_or first s
 or_second first second is = ap (λ (o : Option ℕ). option_or o second) is
 
 module _ (body : Body) (widths : Widths) where
-  abbrev f : ℕ → Share
-  f = cell_share body widths
+  abbrev share_of : ℕ → Share
+  share_of = cell_share body widths
 
   abbrev passes : ℕ → Bool
   passes = is_parameter is_whole_kind body
@@ -93,42 +93,42 @@ module _ (body : Body) (widths : Widths) where
   abbrev stored_size : ℕ → ℕ
   stored_size local = cells_in (widths.local local)
 
-  pub passed_takes : Takes f (λ t. t.passed) passes passed_size
+  pub passed_takes : Takes share_of (λ t. t.passed) passes passed_size
   passed_takes = record { same = λ local. passes_cells (parameter_at body local); some = λ local. passes_some (parameter_at body local) }
 
-  pub extended_takes : Takes f (λ t. t.extended) (is_extended body widths) two
+  pub extended_takes : Takes share_of (λ t. t.extended) (is_extended body widths) two
   extended_takes = record { same = λ local. refl; some = λ local is. omega arith }
 
-  pub stored_takes : Takes f (λ t. t.stored) stores stored_size
+  pub stored_takes : Takes share_of (λ t. t.stored) stores stored_size
   stored_takes = record { same = λ local. refl; some = λ local is. some_cells (widths.local local) }
 
   abbrev count : ℕ
   count = body.max_locals
 
   abbrev later : ℕ → Option ℕ
-  later k = first_cell (room_cells (passed body)) (extended body widths ++ stored body widths) k
+  later local = first_cell (room_cells (passed body)) (extended body widths ++ stored body widths) local
 
-  place_with : (k : ℕ) → k < count → (e s p : Bool) → is_extended body widths k ≡ e → stores k ≡ s → passes k ≡ p → position_at (cell_shares_of body widths) k ≡ cell_of body widths k
-  place_with k within true s p is _ _ =
-      sym (or_first (later k) (first_cell 0 (passed body) k) _ (extended_first f count passes (is_extended body widths) stores passed_size two stored_size passed_takes extended_takes stored_takes k within is)
-      ∙ at_extended f count passes (is_extended body widths) stores passed_size two stored_size passed_takes extended_takes stored_takes k within is)
-  place_with k within false true p not_extended is _ =
-      sym (or_first (later k) (first_cell 0 (passed body) k) _ (stored_first f count passes (is_extended body widths) stores passed_size two stored_size passed_takes extended_takes stored_takes (room_cells (passed body)) k within not_extended is)
-      ∙ at_stored f count passes (is_extended body widths) stores passed_size two stored_size passed_takes extended_takes stored_takes k within not_extended is)
-  place_with k within false false true not_extended not_stored is =
-      sym (or_second (later k) (first_cell 0 (passed body) k) (not_later f count passes (is_extended body widths) stores passed_size two stored_size passed_takes extended_takes stored_takes k not_extended not_stored (room_cells (passed body)))
-      ∙ ap (λ (rooms : List Room). first_cell 0 rooms k) (sym (append-nil (passed body)))
-      ∙ at_passed f count passes (is_extended body widths) stores passed_size two stored_size passed_takes extended_takes stored_takes k within not_extended not_stored [] is)
-  place_with k within false false false not_extended not_stored fails =
-      at_none f count passes (is_extended body widths) stores passed_size two stored_size passed_takes extended_takes stored_takes k within not_extended not_stored fails
-      ∙ sym (or_second (later k) (first_cell 0 (passed body) k) (not_later f count passes (is_extended body widths) stores passed_size two stored_size passed_takes extended_takes stored_takes k not_extended not_stored (room_cells (passed body)))
-      ∙ no_room f count passes (is_extended body widths) stores passed_size two stored_size passed_takes extended_takes stored_takes k not_extended not_stored fails)
+  place_with : (local : ℕ) → local < count → (first second third : Bool) → is_extended body widths local ≡ first → stores local ≡ second → passes local ≡ third → position_at (cell_shares_of body widths) local ≡ cell_of body widths local
+  place_with local within true second third is _ _ =
+      sym (or_first (later local) (first_cell 0 (passed body) local) _ (extended_first share_of count passed_takes extended_takes stored_takes local within is)
+      ∙ at_extended share_of count passed_takes extended_takes stored_takes local within is)
+  place_with local within false true third not_extended is _ =
+      sym (or_first (later local) (first_cell 0 (passed body) local) _ (stored_first share_of count passed_takes extended_takes stored_takes (room_cells (passed body)) local within not_extended is)
+      ∙ at_stored share_of count passed_takes extended_takes stored_takes local within not_extended is)
+  place_with local within false false true not_extended not_stored is =
+      sym (or_second (later local) (first_cell 0 (passed body) local) (not_later share_of count passed_takes extended_takes stored_takes local not_extended not_stored (room_cells (passed body)))
+      ∙ ap (λ (rooms : List Room). first_cell 0 rooms local) (sym (append-nil (passed body)))
+      ∙ at_passed share_of count passed_takes extended_takes stored_takes local within not_extended not_stored [] is)
+  place_with local within false false false not_extended not_stored fails =
+      at_none share_of count passed_takes extended_takes stored_takes local within not_extended not_stored fails
+      ∙ sym (or_second (later local) (first_cell 0 (passed body) local) (not_later share_of count passed_takes extended_takes stored_takes local not_extended not_stored (room_cells (passed body)))
+      ∙ no_room share_of count passed_takes extended_takes stored_takes local not_extended not_stored fails)
 
-  pub cell_placed : (k : ℕ) → k < count → position_at (cell_shares_of body widths) k ≡ cell_of body widths k
-  cell_placed k within = place_with k within (is_extended body widths k) (stores k) (passes k) refl refl refl
+  pub cell_placed : (local : ℕ) → local < count → position_at (cell_shares_of body widths) local ≡ cell_of body widths local
+  cell_placed local within = place_with local within (is_extended body widths local) (stores local) (passes local) refl refl refl
 
   pub cells_placed : positions_of (cell_shares_of body widths) ≡ map (cell_of body widths) (locals_of body)
-  cells_placed = places_are f count (cell_of body widths) cell_placed
+  cells_placed = places_are share_of count (cell_of body widths) cell_placed
 
   -- where a parameter that is extended is passed, and where it is kept
   small_passes : (parameter : Option Kind) → option_map_or is_small parameter false ≡ true → option_map_or is_whole_kind parameter false ≡ true
@@ -139,17 +139,17 @@ module _ (body : Body) (widths : Widths) where
   and_first true other is = refl
   and_first false other is = is
 
-  pub passed_from : (k : ℕ) → k < count → is_extended body widths k ≡ true → first_cell 0 (passed body) k ≡ Some (passed_in (map f (range_with_len 0 k)))
-  passed_from k within is =
-      passed_first f count passes (is_extended body widths) stores passed_size two stored_size passed_takes extended_takes stored_takes k within
-      (small_passes (parameter_at body k) (and_first (is_parameter is_small body k) (is_two (widths.local k)) is))
+  pub passed_from : (local : ℕ) → local < count → is_extended body widths local ≡ true → first_cell 0 (passed body) local ≡ Some (passed_in (map share_of (range_with_len 0 local)))
+  passed_from local within is =
+      passed_first share_of count passed_takes extended_takes stored_takes local within
+      (small_passes (parameter_at body local) (and_first (is_parameter is_small body local) (is_two (widths.local local)) is))
 
-  pub kept_to : (k : ℕ) → k < count → is_extended body widths k ≡ true → cell_of body widths k ≡ Some (passed_in (cell_shares_of body widths) + extended_in (map f (range_with_len 0 k)))
-  kept_to k within is =
-      sym (cell_placed k within) ∙ extended_place f count passes (is_extended body widths) stores passed_size two stored_size passed_takes extended_takes stored_takes k within is
+  pub kept_to : (local : ℕ) → local < count → is_extended body widths local ≡ true → cell_of body widths local ≡ Some (passed_in (cell_shares_of body widths) + extended_in (map share_of (range_with_len 0 local)))
+  kept_to local within is =
+      sym (cell_placed local within) ∙ extended_place share_of count passed_takes extended_takes stored_takes local within is
 
   pub cells_counted : total_in (cell_shares_of body widths) ≡ cell_count body widths
   cells_counted =
-      let sums = cells_in_all f count passes (is_extended body widths) stores passed_size two stored_size passed_takes extended_takes stored_takes in
+      let sums = cells_in_all share_of count passed_takes extended_takes stored_takes in
       let both = cells_append (extended body widths) (stored body widths) in
       omega (arith, sums, both)

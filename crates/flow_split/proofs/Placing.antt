@@ -46,51 +46,51 @@ module _ (passed extended : ℕ) (before : List Share) (taken : Share) where
 
 -- ---- what locals take in all
 
-sum_of : {X : Type 0} (g : X → ℕ) (f : ℕ → X) (test : ℕ → Bool) (size : ℕ → ℕ) → ((local : ℕ) → g (f local) ≡ cond (test local) (size local) 0)
-    → (locals : List ℕ) → sum_by g (map f locals) ≡ room_cells (rooms_where test size locals)
-sum_of g f test size same [] = refl
-sum_of g f test size same (local ∷ locals) =
-    sum_by-cons g (f local) (map f locals)
-    ∙ ap (λ n. n + sum_by g (map f locals)) (same local)
-    ∙ ap (λ n. cond (test local) (size local) 0 + n) (sum_of g f test size same locals ∙ cells_where test size locals)
+sum_of : {X : Type 0} (which : X → ℕ) (share_of : ℕ → X) (test : ℕ → Bool) (size : ℕ → ℕ) → ((local : ℕ) → which (share_of local) ≡ cond (test local) (size local) 0)
+    → (locals : List ℕ) → sum_by which (map share_of locals) ≡ room_cells (rooms_where test size locals)
+sum_of which share_of test size same [] = refl
+sum_of which share_of test size same (local ∷ locals) =
+    sum_by-cons which (share_of local) (map share_of locals)
+    ∙ ap (λ n. n + sum_by which (map share_of locals)) (same local)
+    ∙ ap (λ n. cond (test local) (size local) 0 + n) (sum_of which share_of test size same locals ∙ cells_where test size locals)
     ∙ sym (sum_by-cons (λ l. cond (test l) (size l) 0) local locals)
     ∙ sym (cells_where test size (local ∷ locals))
 
 -- the locals that take places of a kind are those that pass, and each of them takes some
-pub record Takes (f : ℕ → Share) (which : Share → ℕ) (test : ℕ → Bool) (size : ℕ → ℕ) : Type 0 where
-  pub same : (local : ℕ) → which (f local) ≡ cond (test local) (size local) 0
+pub record Takes (share_of : ℕ → Share) (which : Share → ℕ) (test : ℕ → Bool) (size : ℕ → ℕ) : Type 0 where
+  pub same : (local : ℕ) → which (share_of local) ≡ cond (test local) (size local) 0
   pub some : (local : ℕ) → test local ≡ true → 0 < size local
 
-takes_some : (f : ℕ → Share) (which : Share → ℕ) (test : ℕ → Bool) (size : ℕ → ℕ) → Takes f which test size → (local : ℕ) → test local ≡ true → 0 < which (f local)
-takes_some f which test size takes local passes =
+takes_some : {share_of : ℕ → Share} {which : Share → ℕ} {test : ℕ → Bool} {size : ℕ → ℕ} → Takes share_of which test size → (local : ℕ) → test local ≡ true → 0 < which (share_of local)
+takes_some {share_of} {which} {test} {size} takes local passes =
     let is = takes.same local ∙ then_case (test local) (size local) 0 passes in
     omega (arith, is, takes.some local passes)
 
-takes_none : (f : ℕ → Share) (which : Share → ℕ) (test : ℕ → Bool) (size : ℕ → ℕ) → Takes f which test size → (local : ℕ) → test local ≡ false → which (f local) ≡ 0
-takes_none f which test size takes local fails = takes.same local ∙ else_case (test local) (size local) 0 fails
+takes_none : {share_of : ℕ → Share} {which : Share → ℕ} {test : ℕ → Bool} {size : ℕ → ℕ} → Takes share_of which test size → (local : ℕ) → test local ≡ false → which (share_of local) ≡ 0
+takes_none {share_of} {which} {test} {size} takes local fails = takes.same local ∙ else_case (test local) (size local) 0 fails
 
-module _ (f : ℕ → Share) (count : ℕ) where
+module _ (share_of : ℕ → Share) (count : ℕ) where
   abbrev all : List Share
-  all = map f (range_with_len 0 count)
+  all = map share_of (range_with_len 0 count)
 
   abbrev before : ℕ → List Share
-  before k = map f (range_with_len 0 k)
+  before local = map share_of (range_with_len 0 local)
 
   -- the place of a local is that after those before it
-  pub place_is : (k : ℕ) → k < count → position_at all k ≡ first_position (passed_in all) (extended_in all) (before k) (f k)
-  place_is k within =
-      ap (λ (list : List Share). first_position (passed_in all) (extended_in all) list (get_or all k (record { passed = 0; extended = 0; stored = 0 }))) (take-map-range_with_len f 0 count k (omega arith))
-      ∙ ap (first_position (passed_in all) (extended_in all) (before k)) (get_or-map-range_with_len f 0 count k k (record { passed = 0; extended = 0; stored = 0 }) within (omega arith))
+  pub place_is : (local : ℕ) → local < count → position_at all local ≡ first_position (passed_in all) (extended_in all) (before local) (share_of local)
+  place_is local within =
+      ap (λ (list : List Share). first_position (passed_in all) (extended_in all) list (get_or all local (record { passed = 0; extended = 0; stored = 0 }))) (take-map-range_with_len share_of 0 count local (omega arith))
+      ∙ ap (first_position (passed_in all) (extended_in all) (before local)) (get_or-map-range_with_len share_of 0 count local local (record { passed = 0; extended = 0; stored = 0 }) within (omega arith))
 
   -- the places are these where each local has its own
-  pub places_are : (place : ℕ → Option ℕ) → ((k : ℕ) → k < count → position_at all k ≡ place k) → positions_of all ≡ map place (range_with_len 0 count)
+  pub places_are : (place : ℕ → Option ℕ) → ((local : ℕ) → local < count → position_at all local ≡ place local) → positions_of all ≡ map place (range_with_len 0 count)
   places_are place each =
-      let long = length-map-range_with_len f 0 count in
-      fill_by_all place (positions_of all) count None (length-map-range_with_len (position_at all) 0 (length all) ∙ long) (λ k within.
-      get_or-map-range_with_len (position_at all) 0 (length all) k k None (omega (arith, long, within)) (omega arith) ∙ each k within)
+      let long = length-map-range_with_len share_of 0 count in
+      fill_by_all place (positions_of all) count None (length-map-range_with_len (position_at all) 0 (length all) ∙ long) (λ local within.
+      get_or-map-range_with_len (position_at all) 0 (length all) local local None (omega (arith, long, within)) (omega arith) ∙ each local within)
 
-  module _ (passes is_extended is_stored : ℕ → Bool) (passed_size extended_size stored_size : ℕ → ℕ)
-      (passed : Takes f (λ t. t.passed) passes passed_size) (extended : Takes f (λ t. t.extended) is_extended extended_size) (stored : Takes f (λ t. t.stored) is_stored stored_size) where
+  module _ {passes is_extended is_stored : ℕ → Bool} {passed_size extended_size stored_size : ℕ → ℕ}
+      (passed : Takes share_of (λ t. t.passed) passes passed_size) (extended : Takes share_of (λ t. t.extended) is_extended extended_size) (stored : Takes share_of (λ t. t.stored) is_stored stored_size) where
     abbrev first : ℕ → List Room
     first n = rooms_where passes passed_size (range_with_len 0 n)
 
@@ -101,67 +101,67 @@ module _ (f : ℕ → Share) (count : ℕ) where
     third n = rooms_where is_stored stored_size (range_with_len 0 n)
 
     first_cells : (n : ℕ) → passed_in (before n) ≡ room_cells (first n)
-    first_cells n = sum_of (λ (t : Share). t.passed) f passes passed_size passed.same (range_with_len 0 n)
+    first_cells n = sum_of (λ (t : Share). t.passed) share_of passes passed_size passed.same (range_with_len 0 n)
 
     second_cells : (n : ℕ) → extended_in (before n) ≡ room_cells (second n)
-    second_cells n = sum_of (λ (t : Share). t.extended) f is_extended extended_size extended.same (range_with_len 0 n)
+    second_cells n = sum_of (λ (t : Share). t.extended) share_of is_extended extended_size extended.same (range_with_len 0 n)
 
     third_cells : (n : ℕ) → stored_in (before n) ≡ room_cells (third n)
-    third_cells n = sum_of (λ (t : Share). t.stored) f is_stored stored_size stored.same (range_with_len 0 n)
+    third_cells n = sum_of (λ (t : Share). t.stored) share_of is_stored stored_size stored.same (range_with_len 0 n)
 
     -- the place of a parameter that is extended
-    pub extended_place : (k : ℕ) → k < count → is_extended k ≡ true → position_at all k ≡ Some (passed_in all + extended_in (before k))
-    extended_place k within is = place_is k within ∙ place_extended (passed_in all) (extended_in all) (before k) (f k) (takes_some f (λ t. t.extended) is_extended extended_size extended k is)
+    pub extended_place : (local : ℕ) → local < count → is_extended local ≡ true → position_at all local ≡ Some (passed_in all + extended_in (before local))
+    extended_place local within is = place_is local within ∙ place_extended (passed_in all) (extended_in all) (before local) (share_of local) (takes_some extended local is)
 
     -- is its first cell
-    pub extended_first : (k : ℕ) → k < count → is_extended k ≡ true → first_cell (room_cells (first count)) (second count ++ third count) k ≡ Some (room_cells (first count) + room_cells (second k))
-    extended_first k within is = found is_extended extended_size (room_cells (first count)) 0 count k k (third count) within (omega arith) is
+    pub extended_first : (local : ℕ) → local < count → is_extended local ≡ true → first_cell (room_cells (first count)) (second count ++ third count) local ≡ Some (room_cells (first count) + room_cells (second local))
+    extended_first local within is = found is_extended extended_size (room_cells (first count)) 0 count local local (third count) within (omega arith) is
 
-    pub at_extended : (k : ℕ) → k < count → is_extended k ≡ true → first_cell (room_cells (first count)) (second count ++ third count) k ≡ position_at all k
-    at_extended k within is =
-        extended_first k within is ∙ ap Some (omega (arith, first_cells count, second_cells k)) ∙ sym (extended_place k within is)
+    pub at_extended : (local : ℕ) → local < count → is_extended local ≡ true → first_cell (room_cells (first count)) (second count ++ third count) local ≡ position_at all local
+    at_extended local within is =
+        extended_first local within is ∙ ap Some (omega (arith, first_cells count, second_cells local)) ∙ sym (extended_place local within is)
 
     -- of one that is stored
-    pub stored_first : (from k : ℕ) → k < count → is_extended k ≡ false → is_stored k ≡ true → first_cell from (second count ++ third count) k ≡ Some ((from + room_cells (second count)) + room_cells (third k))
-    stored_first from k within not_extended is =
-        skipped is_extended extended_size from (range_with_len 0 count) (third count) k not_extended
-        ∙ ap (λ (rooms : List Room). first_cell (from + room_cells (second count)) rooms k) (sym (append-nil (third count)))
-        ∙ found is_stored stored_size (from + room_cells (second count)) 0 count k k [] within (omega arith) is
+    pub stored_first : (from local : ℕ) → local < count → is_extended local ≡ false → is_stored local ≡ true → first_cell from (second count ++ third count) local ≡ Some ((from + room_cells (second count)) + room_cells (third local))
+    stored_first from local within not_extended is =
+        skipped is_extended extended_size from (range_with_len 0 count) (third count) local not_extended
+        ∙ ap (λ (rooms : List Room). first_cell (from + room_cells (second count)) rooms local) (sym (append-nil (third count)))
+        ∙ found is_stored stored_size (from + room_cells (second count)) 0 count local local [] within (omega arith) is
 
-    pub at_stored : (k : ℕ) → k < count → is_extended k ≡ false → is_stored k ≡ true → first_cell (room_cells (first count)) (second count ++ third count) k ≡ position_at all k
-    at_stored k within not_extended is =
-        stored_first (room_cells (first count)) k within not_extended is
-        ∙ ap Some (omega (arith, first_cells count, second_cells count, third_cells k))
-        ∙ sym (place_is k within ∙ place_stored (passed_in all) (extended_in all) (before k) (f k) (takes_none f (λ t. t.extended) is_extended extended_size extended k not_extended) (takes_some f (λ t. t.stored) is_stored stored_size stored k is))
+    pub at_stored : (local : ℕ) → local < count → is_extended local ≡ false → is_stored local ≡ true → first_cell (room_cells (first count)) (second count ++ third count) local ≡ position_at all local
+    at_stored local within not_extended is =
+        stored_first (room_cells (first count)) local within not_extended is
+        ∙ ap Some (omega (arith, first_cells count, second_cells count, third_cells local))
+        ∙ sym (place_is local within ∙ place_stored (passed_in all) (extended_in all) (before local) (share_of local) (takes_none extended local not_extended) (takes_some stored local is))
 
     -- of none of both
-    pub not_later : (k : ℕ) → is_extended k ≡ false → is_stored k ≡ false → (from : ℕ) → first_cell from (second count ++ third count) k ≡ None
+    pub not_later : (local : ℕ) → is_extended local ≡ false → is_stored local ≡ false → (from : ℕ) → first_cell from (second count ++ third count) local ≡ None
     unfolding first_cell
-    not_later k not_extended not_stored from =
-        skipped is_extended extended_size from (range_with_len 0 count) (third count) k not_extended
-        ∙ ap (λ (rooms : List Room). first_cell (from + room_cells (second count)) rooms k) (sym (append-nil (third count)))
-        ∙ skipped is_stored stored_size (from + room_cells (second count)) (range_with_len 0 count) [] k not_stored
+    not_later local not_extended not_stored from =
+        skipped is_extended extended_size from (range_with_len 0 count) (third count) local not_extended
+        ∙ ap (λ (rooms : List Room). first_cell (from + room_cells (second count)) rooms local) (sym (append-nil (third count)))
+        ∙ skipped is_stored stored_size (from + room_cells (second count)) (range_with_len 0 count) [] local not_stored
 
-    pub at_passed : (k : ℕ) → k < count → is_extended k ≡ false → is_stored k ≡ false → (more : List Room) → passes k ≡ true → first_cell 0 (first count ++ more) k ≡ position_at all k
-    at_passed k within not_extended not_stored more is =
-        found passes passed_size 0 0 count k k more within (omega arith) is
-        ∙ ap Some (omega (arith, first_cells k))
-        ∙ sym (place_is k within ∙ place_passed (passed_in all) (extended_in all) (before k) (f k) (takes_none f (λ t. t.extended) is_extended extended_size extended k not_extended) (takes_none f (λ t. t.stored) is_stored stored_size stored k not_stored) (takes_some f (λ t. t.passed) passes passed_size passed k is))
+    pub at_passed : (local : ℕ) → local < count → is_extended local ≡ false → is_stored local ≡ false → (more : List Room) → passes local ≡ true → first_cell 0 (first count ++ more) local ≡ position_at all local
+    at_passed local within not_extended not_stored more is =
+        found passes passed_size 0 0 count local local more within (omega arith) is
+        ∙ ap Some (omega (arith, first_cells local))
+        ∙ sym (place_is local within ∙ place_passed (passed_in all) (extended_in all) (before local) (share_of local) (takes_none extended local not_extended) (takes_none stored local not_stored) (takes_some passed local is))
 
-    pub passed_first : (k : ℕ) → k < count → passes k ≡ true → first_cell 0 (first count) k ≡ Some (passed_in (before k))
-    passed_first k within is =
-        ap (λ (rooms : List Room). first_cell 0 rooms k) (sym (append-nil (first count)))
-        ∙ found passes passed_size 0 0 count k k [] within (omega arith) is
-        ∙ ap Some (omega (arith, first_cells k))
+    pub passed_first : (local : ℕ) → local < count → passes local ≡ true → first_cell 0 (first count) local ≡ Some (passed_in (before local))
+    passed_first local within is =
+        ap (λ (rooms : List Room). first_cell 0 rooms local) (sym (append-nil (first count)))
+        ∙ found passes passed_size 0 0 count local local [] within (omega arith) is
+        ∙ ap Some (omega (arith, first_cells local))
 
-    pub no_room : (k : ℕ) → is_extended k ≡ false → is_stored k ≡ false → passes k ≡ false → first_cell 0 (first count) k ≡ None
+    pub no_room : (local : ℕ) → is_extended local ≡ false → is_stored local ≡ false → passes local ≡ false → first_cell 0 (first count) local ≡ None
     unfolding first_cell
-    no_room k not_extended not_stored fails =
-        ap (λ (rooms : List Room). first_cell 0 rooms k) (sym (append-nil (first count))) ∙ skipped passes passed_size 0 (range_with_len 0 count) [] k fails
+    no_room local not_extended not_stored fails =
+        ap (λ (rooms : List Room). first_cell 0 rooms local) (sym (append-nil (first count))) ∙ skipped passes passed_size 0 (range_with_len 0 count) [] local fails
 
-    pub at_none : (k : ℕ) → k < count → is_extended k ≡ false → is_stored k ≡ false → passes k ≡ false → position_at all k ≡ None
-    at_none k within not_extended not_stored fails =
-        place_is k within ∙ place_none (passed_in all) (extended_in all) (before k) (f k) (takes_none f (λ t. t.extended) is_extended extended_size extended k not_extended) (takes_none f (λ t. t.stored) is_stored stored_size stored k not_stored) (takes_none f (λ t. t.passed) passes passed_size passed k fails)
+    pub at_none : (local : ℕ) → local < count → is_extended local ≡ false → is_stored local ≡ false → passes local ≡ false → position_at all local ≡ None
+    at_none local within not_extended not_stored fails =
+        place_is local within ∙ place_none (passed_in all) (extended_in all) (before local) (share_of local) (takes_none extended local not_extended) (takes_none stored local not_stored) (takes_none passed local fails)
 
     -- what all take
     pub cells_in_all : total_in all ≡ room_cells (first count) + (room_cells (second count) + room_cells (third count))

@@ -50,16 +50,16 @@ module _ (test : ℕ → Bool) (size : ℕ → ℕ) where
       ∙ ap (λ n. first_cell n more sought) (omega (arith, one_cells local locals (test local) refl))
 
   -- a local that passes has its room after those of the locals before it
-  pub found : (from a m j k : ℕ) (more : List Room) → j < m → a + j ≡ k → test k ≡ true
-      → first_cell from (at (range_with_len a m) ++ more) k ≡ Some (from + room_cells (at (range_with_len a j)))
+  pub found : (from start count index sought : ℕ) (more : List Room) → index < count → start + index ≡ sought → test sought ≡ true
+      → first_cell from (at (range_with_len start count) ++ more) sought ≡ Some (from + room_cells (at (range_with_len start index)))
   unfolding first_cell
-  found from a zero j k more within is passes = absurd (omega (arith, within))
-  found from a (suc m) zero k more within is passes =
-      let same : a ≡ k = omega (arith, is) in
-      ap (λ b. first from b a (range_with_len (a + 1) m) more k) (ap test same ∙ passes)
-      ∙ ap (λ (b : Bool). cond b (Some from) (first_cell (from + size a) (at (range_with_len (a + 1) m) ++ more) k)) ((Decides-eqb a k).1 same)
+  found from start zero index sought more within is passes = absurd (omega (arith, within))
+  found from start (suc count) zero sought more within is passes =
+      let same : start ≡ sought = omega (arith, is) in
+      ap (λ b. first from b start (range_with_len (start + 1) count) more sought) (ap test same ∙ passes)
+      ∙ ap (λ (b : Bool). cond b (Some from) (first_cell (from + size start) (at (range_with_len (start + 1) count) ++ more) sought)) ((Decides-eqb start sought).1 same)
       ∙ ap Some (omega arith)
-  found from a (suc m) (suc j) k more within is passes =
-      passes_over from a (range_with_len (a + 1) m) more k (test a) refl (λ _ same. omega (arith, same, is))
-      ∙ found (from + cond (test a) (size a) 0) (a + 1) m j k more (omega (arith, within)) (omega (arith, is)) passes
-      ∙ ap Some (omega (arith, one_cells a (range_with_len (a + 1) j) (test a) refl))
+  found from start (suc count) (suc index) sought more within is passes =
+      passes_over from start (range_with_len (start + 1) count) more sought (test start) refl (λ _ same. omega (arith, same, is))
+      ∙ found (from + cond (test start) (size start) 0) (start + 1) count index sought more (omega (arith, within)) (omega (arith, is)) passes
+      ∙ ap Some (omega (arith, one_cells start (range_with_len (start + 1) index) (test start) refl))

@@ -23,40 +23,40 @@ ones_cells [] = refl
 ones_cells (local ∷ locals) = omega (arith, sum_by-cons (λ (room : Room). room.1) (local, 1) (ones locals), ones_cells locals)
 
 -- the first place of a local is its position
-position_step : (local k from : ℕ) (locals : List ℕ) (b : Bool) → nat_eq local k ≡ b → nat_eq k local ≡ b
-    → first_cell (from + 1) (ones locals) k ≡ cond (nat_lt (position_or_len (nat_eq k) locals) (length locals)) (Some ((from + 1) + position_or_len (nat_eq k) locals)) None
-    → first_cell from (ones (local ∷ locals)) k ≡ cond (nat_lt (position_or_len (nat_eq k) (local ∷ locals)) (length (local ∷ locals))) (Some (from + position_or_len (nat_eq k) (local ∷ locals))) None
+position_step : (local sought from : ℕ) (locals : List ℕ) (b : Bool) → nat_eq local sought ≡ b → nat_eq sought local ≡ b
+    → first_cell (from + 1) (ones locals) sought ≡ cond (nat_lt (position_or_len (nat_eq sought) locals) (length locals)) (Some ((from + 1) + position_or_len (nat_eq sought) locals)) None
+    → first_cell from (ones (local ∷ locals)) sought ≡ cond (nat_lt (position_or_len (nat_eq sought) (local ∷ locals)) (length (local ∷ locals))) (Some (from + position_or_len (nat_eq sought) (local ∷ locals))) None
 unfolding first_cell
-position_step local k from locals true one other below =
-    let rest = position_or_len (nat_eq k) locals in
-    ap (λ (b : Bool). cond b (Some from) (first_cell (from + 1) (ones locals) k)) one
+position_step local sought from locals true one other below =
+    let rest = position_or_len (nat_eq sought) locals in
+    ap (λ (b : Bool). cond b (Some from) (first_cell (from + 1) (ones locals) sought)) one
     ∙ ap Some (omega arith)
     ∙ sym (then_case (nat_lt 0 (suc (length locals))) (Some (from + 0)) None (some (suc (length locals)) (omega arith)))
     ∙ sym (ap (λ (b : Bool). cond (nat_lt (cond (not b) (1 + rest) 0) (suc (length locals))) (Some (from + cond (not b) (1 + rest) 0)) None) other)
-position_step local k from locals false one other below =
-    let rest = position_or_len (nat_eq k) locals in
+position_step local sought from locals false one other below =
+    let rest = position_or_len (nat_eq sought) locals in
     let alike : nat_lt rest (length locals) ≡ nat_lt (1 + rest) (suc (length locals)) = grind (arith, nat_tests) in
-    ap (λ (b : Bool). cond b (Some from) (first_cell (from + 1) (ones locals) k)) one
+    ap (λ (b : Bool). cond b (Some from) (first_cell (from + 1) (ones locals) sought)) one
     ∙ below
     ∙ ap (λ (b : Bool). cond b (Some ((from + 1) + rest)) None) alike
     ∙ ap (λ n. cond (nat_lt (1 + rest) (suc (length locals))) (Some n) None) (omega arith)
     ∙ sym (ap (λ (b : Bool). cond (nat_lt (cond (not b) (1 + rest) 0) (suc (length locals))) (Some (from + cond (not b) (1 + rest) 0)) None) other)
 
-position_is : (locals : List ℕ) (k from : ℕ)
-    → first_cell from (ones locals) k ≡ cond (nat_lt (position_or_len (nat_eq k) locals) (length locals)) (Some (from + position_or_len (nat_eq k) locals)) None
+position_is : (locals : List ℕ) (sought from : ℕ)
+    → first_cell from (ones locals) sought ≡ cond (nat_lt (position_or_len (nat_eq sought) locals) (length locals)) (Some (from + position_or_len (nat_eq sought) locals)) None
 unfolding first_cell
-position_is [] k from = refl
-position_is (local ∷ locals) k from =
-    let alike : nat_eq k local ≡ nat_eq local k = grind (arith, nat_tests) in
-    position_step local k from locals (nat_eq local k) refl alike (position_is locals k (from + 1))
+position_is [] sought from = refl
+position_is (local ∷ locals) sought from =
+    let alike : nat_eq sought local ≡ nat_eq local sought = grind (arith, nat_tests) in
+    position_step local sought from locals (nat_eq local sought) refl alike (position_is locals sought (from + 1))
 
 not_first : (first second : Bool) → (not first && second) ≡ true → first ≡ false
 not_first true second is = absurd (false≢true is)
 not_first false second is = refl
 
 module _ (body : Body) where
-  abbrev f : ℕ → Share
-  f = slot_share body
+  abbrev share_of : ℕ → Share
+  share_of = slot_share body
 
   abbrev passes : ℕ → Bool
   passes = is_reference_parameter body
@@ -70,13 +70,13 @@ module _ (body : Body) where
   abbrev stores : ℕ → Bool
   stores local = not (is_reference_parameter body local) && is_stored value_kind.Ref body local
 
-  passed_takes : Takes f (λ t. t.passed) passes one
+  passed_takes : Takes share_of (λ t. t.passed) passes one
   passed_takes = record { same = λ local. refl; some = λ local is. omega arith }
 
-  extended_takes : Takes f (λ t. t.extended) never one
+  extended_takes : Takes share_of (λ t. t.extended) never one
   extended_takes = record { same = λ local. refl; some = λ local is. omega arith }
 
-  stored_takes : Takes f (λ t. t.stored) stores one
+  stored_takes : Takes share_of (λ t. t.stored) stores one
   stored_takes = record { same = λ local. refl; some = λ local is. omega arith }
 
   abbrev count : ℕ
@@ -89,10 +89,10 @@ module _ (body : Body) where
   second = filter stores (locals_of body)
 
   -- the slot is the first place among rooms of one place
-  slot_first : (k : ℕ) → slot_of body k ≡ first_cell 0 (ones first ++ ones second) k
-  slot_first k =
-      ap (λ n. cond (nat_lt (position_or_len (nat_eq k) (first ++ second)) (length (first ++ second))) (Some n) None) (omega arith)
-      ∙ sym (position_is (first ++ second) k 0) ∙ ap (λ (rooms : List Room). first_cell 0 rooms k) (map-append (λ (local : ℕ). (local, 1)) first second)
+  slot_first : (local : ℕ) → slot_of body local ≡ first_cell 0 (ones first ++ ones second) local
+  slot_first local =
+      ap (λ n. cond (nat_lt (position_or_len (nat_eq local) (first ++ second)) (length (first ++ second))) (Some n) None) (omega arith)
+      ∙ sym (position_is (first ++ second) local 0) ∙ ap (λ (rooms : List Room). first_cell 0 rooms local) (map-append (λ (local : ℕ). (local, 1)) first second)
 
   none_never : (locals : List ℕ) → filter never locals ≡ []
   none_never [] = refl
@@ -102,27 +102,27 @@ module _ (body : Body) where
   middle = ap (λ (locals : List ℕ). map (λ (local : ℕ). (local, 1)) locals) (none_never (locals_of body))
 
   -- the slot of a local that is no parameter
-  after_first : (k : ℕ) → passes k ≡ false → slot_of body k ≡ first_cell (0 + room_cells (ones first)) (rooms_where never one (locals_of body) ++ ones second) k
-  after_first k fails =
-      slot_first k ∙ skipped passes one 0 (locals_of body) (ones second) k fails
-      ∙ ap (λ (rooms : List Room). first_cell (0 + room_cells (ones first)) (rooms ++ ones second) k) (sym middle)
+  after_first : (local : ℕ) → passes local ≡ false → slot_of body local ≡ first_cell (0 + room_cells (ones first)) (rooms_where never one (locals_of body) ++ ones second) local
+  after_first local fails =
+      slot_first local ∙ skipped passes one 0 (locals_of body) (ones second) local fails
+      ∙ ap (λ (rooms : List Room). first_cell (0 + room_cells (ones first)) (rooms ++ ones second) local) (sym middle)
 
-  place_with : (k : ℕ) → k < count → (s p : Bool) → stores k ≡ s → passes k ≡ p → position_at (slot_shares_of body) k ≡ slot_of body k
-  place_with k within true p is _ =
-      sym (after_first k (not_first (passes k) (is_stored value_kind.Ref body k) is)
-      ∙ ap (λ n. first_cell n (rooms_where never one (locals_of body) ++ ones second) k) (omega arith)
-      ∙ at_stored f count passes never stores one one one passed_takes extended_takes stored_takes k within refl is)
-  place_with k within false true not_stored is =
-      sym (slot_first k ∙ at_passed f count passes never stores one one one passed_takes extended_takes stored_takes k within refl not_stored (ones second) is)
-  place_with k within false false not_stored fails =
-      at_none f count passes never stores one one one passed_takes extended_takes stored_takes k within refl not_stored fails
-      ∙ sym (after_first k fails ∙ not_later f count passes never stores one one one passed_takes extended_takes stored_takes k refl not_stored (0 + room_cells (ones first)))
+  place_with : (local : ℕ) → local < count → (kept given : Bool) → stores local ≡ kept → passes local ≡ given → position_at (slot_shares_of body) local ≡ slot_of body local
+  place_with local within true given is _ =
+      sym (after_first local (not_first (passes local) (is_stored value_kind.Ref body local) is)
+      ∙ ap (λ n. first_cell n (rooms_where never one (locals_of body) ++ ones second) local) (omega arith)
+      ∙ at_stored share_of count passed_takes extended_takes stored_takes local within refl is)
+  place_with local within false true not_stored is =
+      sym (slot_first local ∙ at_passed share_of count passed_takes extended_takes stored_takes local within refl not_stored (ones second) is)
+  place_with local within false false not_stored fails =
+      at_none share_of count passed_takes extended_takes stored_takes local within refl not_stored fails
+      ∙ sym (after_first local fails ∙ not_later share_of count passed_takes extended_takes stored_takes local refl not_stored (0 + room_cells (ones first)))
 
   pub slots_placed : positions_of (slot_shares_of body) ≡ map (slot_of body) (locals_of body)
-  slots_placed = places_are f count (slot_of body) (λ k within. place_with k within (stores k) (passes k) refl refl)
+  slots_placed = places_are share_of count (slot_of body) (λ local within. place_with local within (stores local) (passes local) refl refl)
 
   pub slots_counted : total_in (slot_shares_of body) ≡ slot_count body
   slots_counted =
-      let sums = cells_in_all f count passes never stores one one one passed_takes extended_takes stored_takes in
+      let sums = cells_in_all share_of count passed_takes extended_takes stored_takes in
       let none = ap room_cells middle in
       omega (arith, sums, none, ones_cells first, ones_cells second, length-append first second)
