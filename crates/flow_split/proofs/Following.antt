@@ -2,25 +2,11 @@
 use Rattle.std.proofs.Common.{◌≡◌, ℕ, zero, suc, ◌+◌, ◌<◌, ◌≤◌, true, false, cond, nat_eq, [], ◌∷◌, length, get_or, Some, None, slice_get, option_map, refl, sym, ap, ◌∙◌, arith, add-one}
 use Rattle.std.proofs.lemmas.Bool.Decides.{nat_tests}
 use Rattle.std.proofs.lemmas.Option.{same_Some}
+use Rattle.code_reach.proofs.Indexes.{pcs_rise}
 use Rattle.body_form.specs.declared.op.Op.{Op}
 use Rattle.code_reach.specs.Reached.{RisesFrom}
 use Rattle.body_form.specs.Flow.{Ops, pc_at}
 use Rattle.jvm_model.specs.WidthsShapes.{pc_after}
-
-from_low : (low : ℕ) (ops : Ops) → RisesFrom low ops → (position : ℕ) → position < length ops → low ≤ pc_at ops position
-from_low low [] rise position within = absurd (omega (arith, within))
-from_low low (x ∷ ops) rise zero within = rise.0
-from_low low (x ∷ ops) rise (suc position) within =
-    let least = rise.0 in
-    let above = from_low (suc x.0) ops rise.1 position (omega (arith, within)) in
-    omega (arith, least, above)
-
--- the pcs rise with the positions
-pub pcs_follow : (low : ℕ) (ops : Ops) → RisesFrom low ops → (first second : ℕ) → first < second → second < length ops → pc_at ops first < pc_at ops second
-pcs_follow low [] rise first second less within = absurd (omega (arith, within))
-pcs_follow low (x ∷ ops) rise first zero less within = absurd (omega (arith, less))
-pcs_follow low (x ∷ ops) rise zero (suc second) less within = from_low (suc x.0) ops rise.1 second (omega (arith, within))
-pcs_follow low (x ∷ ops) rise (suc first) (suc second) less within = pcs_follow (suc x.0) ops rise.1 first second (omega (arith, less)) (omega (arith, within))
 
 -- the pc after that at a position is the next one
 pub after_at : (low : ℕ) (ops : Ops) → RisesFrom low ops → (position : ℕ) → position < length ops → pc_after ops (pc_at ops position) ≡ option_map (λ (x : ℕ × Op). x.0) (slice_get ops (suc position))
@@ -32,14 +18,14 @@ after_at low (x ∷ next ∷ ops) rise zero within =
     let here : nat_eq x.0 x.0 ≡ true = grind (arith, nat_tests) in
     ap (λ b. cond b (Some next.0) (pc_after (next ∷ ops) x.0)) here
 after_at low (x ∷ next ∷ ops) rise (suc position) within =
-    let above = from_low (suc x.0) (next ∷ ops) rise.1 position (omega (arith, within)) in
+    let above = pcs_rise low (x ∷ next ∷ ops) rise 0 (suc position) (omega arith) within in
     let other : nat_eq x.0 (pc_at (next ∷ ops) position) ≡ false = grind (arith, nat_tests, above) in
     ap (λ b. cond b (Some next.0) (pc_after (next ∷ ops) (pc_at (next ∷ ops) position))) other ∙ after_at (suc x.0) (next ∷ ops) rise.1 position (omega (arith, within))
 
 -- which is higher
 pub after_higher : (ops : Ops) → RisesFrom 0 ops → (position next : ℕ) → position < length ops → pc_after ops (pc_at ops position) ≡ Some next → pc_at ops position ≤ next
 after_higher ops rise position next within is =
-    next_of ops position next (sym (after_at 0 ops rise position within) ∙ is) (λ inside. pcs_follow 0 ops rise position (suc position) (omega arith) inside)
+    next_of ops position next (sym (after_at 0 ops rise position within) ∙ is) (λ inside. pcs_rise 0 ops rise position (suc position) (omega arith) inside)
   where
     found_at : (ops : Ops) (index next : ℕ) → option_map (λ (x : ℕ × Op). x.0) (slice_get ops index) ≡ Some next → (index < length ops) × (pc_at ops index ≡ next)
     found_at [] index next is = absurd (grind (arith, is))

@@ -16,6 +16,7 @@ use Rattle.jvm_model.specs.WidthsFrame.{operand_cells}
 use Rattle.jvm_model.specs.WidthsShapes.{is_entry, is_narrow, width_where, shape_of, shapes_of}
 use Rattle.type_table.specs.Counts.{ints_in}
 use Rattle.type_table.specs.Types.{Rows, table_of}
+use Rattle.flow_split.proofs.Deciding.{both_true}
 use Rattle.flow_split.specs.Splits.{AreEntries, comes_before, is_int_in}
 use Rattle.flow_split.specs.Totals.{is_operand_at, narrow_operands, shapes_before}
 use Rattle.flow_split.proofs.Counted.{one_if, count_cons}
@@ -75,11 +76,6 @@ ones_either first second (type ∷ below) apart =
 -- an operand at a place is an int
 abbrev is_int_at : ℕ → List VType → Bool
 is_int_at place types = nat_lt place (length types) && is_int (get_or types (length types - 1 - place) known.Top)
-
-both_true : (x y : Bool) → (x && y) ≡ true → (x ≡ true) × (y ≡ true)
-both_true true true e = (refl, refl)
-both_true true false e = absurd (grind (arith, e))
-both_true false y e = absurd (grind (arith, e))
 
 -- the top one, or one of those below it
 at_or_below : (here : Bool) (place : ℕ) (type : VType) (below : List VType) → nat_eq place (length below) ≡ here → is_int_at place (type ∷ below) ≡ true

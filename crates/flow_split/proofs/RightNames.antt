@@ -15,6 +15,7 @@ use Rattle.body_form.specs.Flow.{Ops, goes_on}
 use Rattle.jvm_model.specs.TypesRight.{Table, IsRight}
 use Rattle.jvm_model.specs.TypesRules.{Change, op_at, load, store, increment, has_kind, change_of, frame_after, is_within, is_last, where_within, changed}
 use Rattle.type_table.specs.Types.{Rows, table_of}
+use Rattle.flow_split.proofs.Deciding.{both_true}
 use Rattle.flow_split.specs.Around.{local_named}
 use Rattle.flow_split.specs.Splits.{AreNamed}
 
@@ -53,11 +54,6 @@ counted frame (Some type) change is = (type, refl)
 when_some : {X : Type 0} (b : Bool) (o : Option X) (x : X) → cond b o None ≡ Some x → (b ≡ true) × (o ≡ Some x)
 when_some true o x is = (refl, is)
 when_some false o x is = absurd (grind (arith, is))
-
-both_true : (a b : Bool) → (a && b) ≡ true → (a ≡ true) × (b ≡ true)
-both_true true true is = (refl, refl)
-both_true true false is = absurd (grind (arith, is))
-both_true false b is = absurd (grind (arith, is))
 
 stored : (frame : VFrame) (kind : ValueKind) (local : ℕ) (stack : List VType) (change : Change) → store frame kind local stack ≡ Some change → local < length frame.locals
 stored frame kind local [] change is = absurd (grind (arith, is))

@@ -6,7 +6,8 @@ use Rattle.body_form.specs.Flow.{pc_at}
 use Rattle.jvm_model.specs.WidthsShapes.{height_at}
 use Rattle.type_table.specs.Types.{table_of}
 use Rattle.flow_split.specs.Walks.{rows_before}
-use Rattle.flow_split.proofs.Following.{pcs_follow, pc_got}
+use Rattle.code_reach.proofs.Indexes.{pcs_rise}
+use Rattle.flow_split.proofs.Following.{pc_got}
 use Rattle.flow_split.proofs.RowsByPc.{before_higher}
 use Rattle.flow_split.proofs.heights.heights.Goals as goal
 
@@ -30,7 +31,7 @@ loop-x-preserved c =
     let found = c.height_before.ensures ∙ ap height c.x-item.is in
     record {
       row = λ k le within.
-          let higher = pcs_follow 0 ops c.requires.ops i k (omega (arith, le)) within in
+          let higher = pcs_rise 0 ops c.requires.ops i k (omega (arith, le)) within in
           let more = before_higher rows x.0 (pc_at ops k) (omega (arith, pc, higher)) in
           let first = c.first_from-row.ensures in
           omega (arith, more, first);

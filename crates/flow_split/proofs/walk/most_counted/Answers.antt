@@ -2,13 +2,14 @@
 use Rattle.std.proofs.Common.{◌≡◌, ℕ, max, map, take, get_or, sym, ap, subst, ◌∙◌, arith}
 use Rattle.std.specs.Prelude.{Some, slice_get}
 use Rattle.code_reach.specs.Reached.{RisesFrom}
+use Rattle.code_reach.proofs.Indexes.{pcs_rise}
 use Rattle.body_form.specs.declared.op.Op.{Op}
 use Rattle.body_form.specs.Flow.{Ops, pc_at}
 use Rattle.jvm_model.specs.WidthsShapes.{widths_of}
 use Rattle.jvm_model.specs.WidthsFrame.{most_at, greatest}
 use Rattle.type_table.specs.Types.{table_of}
 use Rattle.flow_split.specs.Walks.{rows_before}
-use Rattle.flow_split.proofs.Following.{pc_got, pcs_follow, got}
+use Rattle.flow_split.proofs.Following.{pc_got, got}
 use Rattle.flow_split.proofs.RowsByPc.{before_higher}
 use Rattle.flow_split.proofs.Greatest.{greatest_more}
 use Rattle.flow_split.proofs.walk.most_counted.Goals as goal
@@ -27,7 +28,7 @@ loop-position-preserved c =
     let there : slice_get c.args.body.now.ops at ≡ Some z = ap (λ (list : Ops). slice_get list at) (sym all) ∙ got ops at z here ∙ ap (λ (y : ℕ × Op). Some y) (sym whole) in
     record {
       before = λ later le within.
-          let higher = pcs_follow 0 ops rise at later (omega (arith, le)) within in
+          let higher = pcs_rise 0 ops rise at later (omega (arith, le)) within in
           omega (arith, c.first_from-index.ensures, ap (rows_before rows) (pc_got ops at z here), before_higher rows (pc_at ops at) (pc_at ops later) (omega (arith, higher)));
       most =
           c.max-most.ensures ∙ ap (λ n. max n c.loop-position.most) (c.in-Ok.ensures z there)
