@@ -1,6 +1,7 @@
 //! How the frame of a method is laid out: the slots of its references, the cells of its whole numbers, and how many
 //! cells its operands take at most. The main call is `split`. What a plan is stands in `jvm_model`, in
-//! specs/WidthsFrame.antt, and what is asked and refused in specs/Splits.antt. This crate stands on `expansion`, `type_table`, `jvm_model`, `image_instr`, `body_form`, `insn_form` and `class_pool`.
+//! specs/WidthsFrame.antt, and what is asked and refused in specs/Splits.antt. This crate stands on `expansion`,
+//! `type_table`, `jvm_model`, `image_instr`, `body_form`, `insn_form` and `class_pool`.
 #![tactic(auto)]
 
 mod calls;
