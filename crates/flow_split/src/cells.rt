@@ -72,15 +72,6 @@ pub(crate) fn cell_shares(
     Ok(shares)
 }
 
-/// How many cells the locals take.
-pub(crate) fn cell_total(shares: &[Share]) -> u32
-    requires { length shares.now ≤ 65535 }
-    ensures sum { result ≡ total_in shares.now }
-    ensures is { (body : MethodBody) (widths : Widths) → shares.now ≡ cell_shares_of body widths → result ≡ cell_count body widths }
-{
-    total(shares)
-}
-
 /// The first cell of each local that has cells.
 pub(crate) fn cells(alloc: Global, shares: &[Share]) -> Result<Vec<Option<u16>>, AllocError>
     requires few { length shares.now ≤ 65535 }

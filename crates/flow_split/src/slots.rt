@@ -43,15 +43,6 @@ pub(crate) fn slot_shares(alloc: Global, body: &Body) -> Result<Vec<Share>, Allo
     Ok(shares)
 }
 
-/// How many slots the locals take.
-pub(crate) fn slot_total(shares: &[Share]) -> u32
-    requires { length shares.now ≤ 65535 }
-    ensures sum { result ≡ total_in shares.now }
-    ensures is { (body : MethodBody) → shares.now ≡ slot_shares_of body → result ≡ slot_count body }
-{
-    total(shares)
-}
-
 /// The slot of each local that has one.
 pub(crate) fn slots(alloc: Global, shares: &[Share]) -> Result<Vec<Option<u16>>, AllocError>
     requires few { length shares.now ≤ 65535 }
