@@ -4,6 +4,7 @@
 //! `jvm_model`, `class_tree`, `class_code`, `body_form` and the kit's `indexmap`.
 #![tactic(auto)]
 
+mod bodies;
 mod classes;
 mod descriptor;
 mod laws;
@@ -16,5 +17,5 @@ mod values;
 mod writes;
 
 pub use descriptor::selector_number;
-pub use laws::fields_come_from_superclasses;
+pub use laws::{class_order_is_right, fields_come_from_superclasses};
 pub use refusal::IdsRefusal;
