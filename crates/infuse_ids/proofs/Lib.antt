@@ -8,4 +8,6 @@ mod ObjectFields
 mod DescriptorTexts
 mod ClassOrders
 mod ClassBodies
+mod ObjectSizes
+mod LargeObjects
 mod ClassTypes

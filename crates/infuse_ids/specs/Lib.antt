@@ -1,3 +1,4 @@
 pub mod Writes
 pub mod Layouts
 pub mod Orders
+pub mod Sizes

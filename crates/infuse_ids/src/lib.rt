@@ -7,10 +7,13 @@
 mod bodies;
 mod classes;
 mod descriptor;
+mod kinds;
 mod laws;
+mod limits;
 mod pushed;
 mod refusal;
 mod selectors;
+mod sizes;
 mod texts;
 mod types;
 mod values;
