@@ -11,3 +11,6 @@ mod ClassBodies
 mod ObjectSizes
 mod LargeObjects
 mod ClassTypes
+mod PlacesAmong
+mod ClassFields
+mod Placing

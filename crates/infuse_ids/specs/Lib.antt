@@ -2,3 +2,4 @@ pub mod Writes
 pub mod Layouts
 pub mod Orders
 pub mod Sizes
+pub mod Places

@@ -6,10 +6,12 @@
 
 mod bodies;
 mod classes;
+mod counts;
 mod descriptor;
 mod kinds;
 mod laws;
 mod limits;
+mod places;
 mod pushed;
 mod refusal;
 mod selectors;
