@@ -14,3 +14,4 @@ mod ClassTypes
 mod PlacesAmong
 mod ClassFields
 mod Placing
+mod StaticFields

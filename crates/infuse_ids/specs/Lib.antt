@@ -3,3 +3,4 @@ pub mod Layouts
 pub mod Orders
 pub mod Sizes
 pub mod Places
+pub mod Statics

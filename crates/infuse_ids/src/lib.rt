@@ -16,6 +16,7 @@ mod pushed;
 mod refusal;
 mod selectors;
 mod sizes;
+mod statics;
 mod texts;
 mod types;
 mod values;
