@@ -26,7 +26,9 @@ use Rattle.jvm_model.specs.ImageNumbering.{Field, fields_from, class_fields, obj
 use Rattle.jvm_model.specs.WidthsSlots.{passed_cells}
 use Rattle.infuse_ids.specs.Layouts.{own_fields}
 use Rattle.infuse_ids.specs.declared.sizes.Sizes.{Sizes}
-use Rattle.infuse_ids.specs.Sizes.{layout_in, of_objects, with_kind, with_member, sized}
+use Rattle.infuse_ids.specs.Places.{layout_in, of_objects, with_kind}
+use Rattle.infuse_ids.specs.Sizes.{with_member, sized}
+use Rattle.infuse_ids.proofs.ClassFields.{library_has_none}
 use Rattle.infuse_ids.proofs.ObjectFields.{fields_by_superclass}
 
 -- ---- one more field
@@ -84,38 +86,6 @@ module _ (class : ℕ) (file : ClassFile) where
   all_counted at (member ∷ members) before =
       one_counted (record { member = member_at class at; kind = kind_of file.pool member; static = is_static member.flags }) members before (of_objects (fields_from class file (suc at) members)) (is_static member.flags)
       (all_counted (suc at) members)
-
--- ---- classes of the library
-
--- a class of the library, or none
-abbrev pub is_library : Option ℕ → Bool
-is_library None = true
-is_library (Some class) = nat_lt class first_own
-
-library_at : (above : List (Option ℕ)) → list_all is_library above ≡ true → (class upper : ℕ) → option_and_then (λ (o : Option ℕ). o) (slice_get above class) ≡ Some upper → upper < first_own
-library_at [] all class upper e = cc
-library_at (o ∷ above) all zero upper e =
-    ltb-true upper first_own (ap is_library (sym e) ∙ (and_parts (is_library o) (list_all is_library above) all).0)
-library_at (o ∷ above) all (suc class) upper e = library_at above (and_parts (is_library o) (list_all is_library above) all).1 class upper e
-
-no_file : (files : List ClassFile) (class : ℕ) → class < first_own → file_of files class ≡ None
-no_file files class lt = ap (λ (is : Bool). cond is None (slice_get files (class - first_own))) (lt-ltb class first_own lt)
-
-module _ (files : List ClassFile) where
-  none_by_super : (class : ℕ) → class < first_own → (fields : ℕ → List Field) → ((upper : ℕ) → upper < first_own → fields upper ≡ []) → (o : Option ℕ) → superclass_of files class ≡ o → option_map_or fields o [] ≡ []
-  none_by_super class lt fields each None e = refl
-  none_by_super class lt fields each (Some upper) e = each upper (library_at superclasses refl class upper (sym (super_by_library files class lt) ∙ e))
-
-  none_of_library : (levels class : ℕ) → class < first_own → object_fields files levels class ≡ []
-  unfolding object_fields
-  none_of_library zero class lt = refl
-  none_of_library (suc levels) class lt =
-      ap (λ (above : List Field). above ++ own_fields files class) (none_by_super class lt (object_fields files levels) (none_of_library levels) (superclass_of files class) refl)
-      ∙ ap (λ (fields : List Field). filter (λ (field : Field). not field.static) fields) (ap (λ (o : Option ClassFile). option_map_or (λ (f : ClassFile). fields_from class f 0 f.fields) o []) (no_file files class lt))
-
-  -- an object of a class of the library has no fields
-  pub library_has_none : (class : ℕ) → class < first_own → fields_of_object files class ≡ []
-  library_has_none class lt = none_of_library (class_count files) class lt
 
 -- ---- sizes by position
 

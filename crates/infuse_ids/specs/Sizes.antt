@@ -1,31 +1,24 @@
 -- How large objects are, and which counts are above their limits.
 use Rattle.std.specs.Prelude.{◌≡◌, ◌⊎◌, ℕ, ◌+◌, not, if◌then◌else◌, List, map, filter, length, Option, Some, option_map}
-use Rattle.std.specs.List.{fold, sum_by}
+use Rattle.std.specs.List.{flat_map, sum_by}
+use Rattle.std.specs.Option.{option_or}
 use Rattle.class_pool.specs.declared.descriptor.Kind.{Kind}
 use Rattle.class_pool.specs.Pool.{Slots}
 use Rattle.class_file.specs.Rules.{is_static}
+use Rattle.class_file.specs.declared.record.ClassFile.{ClassFile}
 use Rattle.class_file.specs.declared.record.Member.{Member}
 use Rattle.jvm_model.specs.declared.numbers.Layout.{Layout}
+use Rattle.jvm_model.specs.ImageLimits.{excess, first_large, file_layouts}
 use Rattle.jvm_model.specs.Initialisers.{is_reference_kind}
 use Rattle.jvm_model.specs.InitialStatics.{kind_of}
-use Rattle.jvm_model.specs.ImageNumbering.{Field, is_reference_field, is_number_field, field_cells}
+use Rattle.jvm_model.specs.ImageNumbering.{Field, initial_cells, is_reference_field, is_number_field, field_cells, static_fields}
 use Rattle.jvm_model.specs.WidthsSlots.{passed_cells}
+use Rattle.body_form.specs.declared.body.Body.{Body}
+use Rattle.infuse_ids.specs.Orders.{methods_over, selectors_over, types_over}
+use Rattle.infuse_ids.specs.Places.{with_kind}
 use Rattle.infuse_ids.specs.declared.refusal.IdsRefusal.{IdsRefusal}
 use Rattle.infuse_ids.specs.declared.refusal.IdsRefusal.TheVariants.{TooMany, Memory}
 use Rattle.infuse_ids.specs.declared.sizes.Sizes.{Sizes}
-
--- the references among fields, and the cells of those that are whole numbers
-abbrev pub layout_in : List Field → Layout
-layout_in fields = record { refs = length (filter is_reference_field fields); nums = sum_by field_cells (filter is_number_field fields) }
-
--- those of objects
-abbrev pub of_objects : List Field → List Field
-of_objects fields = filter (λ (field : Field). not field.static) fields
-
--- a field of the type is counted with the others
-abbrev pub with_kind : Kind → Layout → Layout
-with_kind kind counts =
-    if is_reference_kind kind then record { refs = counts.refs + 1; nums = counts.nums } else record { refs = counts.refs; nums = counts.nums + passed_cells kind }
 
 -- sizes before limits are tested, as a layout
 abbrev pub sized : Sizes → Layout
@@ -44,3 +37,19 @@ refusal_of found = TooMany found.0 found.1
 -- there was no memory, or the refusal is that of this count above its limit
 abbrev pub RefusesFor : Option (ℕ × ℕ) → IdsRefusal → Type 0
 RefusesFor found why = (why ≡ Memory) ⊎ (option_map refusal_of found ≡ Some why)
+
+-- the static references, or the cells of the other statics, are too many
+abbrev pub static_excess : List ClassFile → Option (ℕ × ℕ)
+static_excess files =
+    option_or (excess 5 (length (filter is_reference_field (static_fields files))) 16384)
+    (excess 6 (length (flat_map (initial_cells files) (filter is_number_field (static_fields files)))) 16384)
+
+-- those, or the cells of an object
+abbrev pub field_excess : List ClassFile → Option (ℕ × ℕ)
+field_excess files = option_or (static_excess files) (first_large (file_layouts files))
+
+-- the types, the selectors or the methods are too many
+abbrev pub list_excess : List ClassFile → List ℕ → List Body → Option (ℕ × ℕ)
+list_excess files order bodies =
+    option_or (excess 2 (32 + length (types_over order bodies)) 4096)
+    (option_or (excess 3 (length (selectors_over files order)) 16384) (excess 4 (32 + length (methods_over order bodies)) 16384))

@@ -8,7 +8,8 @@ ghost use Rattle.class_tree.specs.DirectSupers.{superclass_of};
 ghost use Rattle.class_file.specs.declared.record.ClassFile.{ClassFile as Record};
 ghost use Rattle.jvm_model.specs.ImageNumbering.{fields_of_object, layout_of};
 ghost use Rattle.infuse_ids.specs.declared.refusal.IdsRefusal.TheVariants.{Memory};
-ghost use Rattle.infuse_ids.specs.Sizes.{layout_in, sized, with_kind as layout_with_kind, with_member};
+ghost use Rattle.infuse_ids.specs.Places.{layout_in, with_kind as layout_with_kind};
+ghost use Rattle.infuse_ids.specs.Sizes.{sized, with_member};
 
 use crate::classes::file_of;
 use crate::kinds::{cells, is_reference, kind_of};
