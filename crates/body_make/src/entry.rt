@@ -52,7 +52,7 @@ fn main_in(file: &ClassFile) -> Option<usize>
 }
 
 /// The main of the first file that has one.
-pub(crate) fn entry(set: &ClassSet) -> Option<MemberId>
+pub fn entry(set: &ClassSet) -> Option<MemberId>
     ensures { result ≡ entry_of set.now }
 {
     for position in 0..set.file_count() {

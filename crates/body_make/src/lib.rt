@@ -25,5 +25,6 @@ mod type_test;
 mod types;
 mod uppers;
 
+pub use entry::entry as main_method;
 pub use refusal::{LinkCause, LinkRefusal};
 pub use set_bodies::bodies;
