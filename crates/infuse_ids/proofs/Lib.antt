@@ -15,3 +15,4 @@ mod PlacesAmong
 mod ClassFields
 mod Placing
 mod StaticFields
+mod NumberedSets

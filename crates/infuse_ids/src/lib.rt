@@ -11,6 +11,7 @@ mod descriptor;
 mod kinds;
 mod laws;
 mod limits;
+mod numbering;
 mod places;
 mod pushed;
 mod refusal;
@@ -24,4 +25,5 @@ mod writes;
 
 pub use descriptor::selector_number;
 pub use laws::{class_order_is_right, fields_come_from_superclasses};
+pub use numbering::number;
 pub use refusal::IdsRefusal;
