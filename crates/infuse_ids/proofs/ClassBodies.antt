@@ -181,8 +181,8 @@ files_listed first (file ∷ files) =
     let others = methods_in (suc first) files in
     subst (AreListed first) (sym (split_files first file files)) (record {
       from = all_append (λ (m : MemberId). first ≤ m.class) mine others
-        (all_map (λ (m : MemberId). m.class ≡ first) (λ (m : MemberId). first ≤ m.class) (λ m e. omega (arith, e)) mine here.own)
-        (all_map (λ (m : MemberId). suc first ≤ m.class) (λ (m : MemberId). first ≤ m.class) (λ m le. omega (arith, le)) others later.from);
+          (all_map (λ (m : MemberId). m.class ≡ first) (λ (m : MemberId). first ≤ m.class) (λ m e. omega (arith, e)) mine here.own)
+          (all_map (λ (m : MemberId). suc first ≤ m.class) (λ (m : MemberId). first ≤ m.class) (λ m le. omega (arith, le)) others later.from);
       rising = rising_append first mine others here.own later.from here.rising later.rising;
     })
 
@@ -206,11 +206,11 @@ class_found first zero (file ∷ files) =
     let here = all_listed first file 0 file.methods in
     let start : first + 0 ≡ first = omega arith in
     let goal : filter (is_in_class first) (methods_in first (file ∷ files)) ≡ mine =
-      ap (filter (is_in_class first)) (split_files first file files) ∙ filter-append (is_in_class first) mine others
-      ∙ ap (λ ms. ms ++ filter (is_in_class first) others) (all_pass (is_in_class first) mine
-        (all_map (λ (m : MemberId). m.class ≡ first) (λ (m : MemberId). is_in_class first m ≡ true) (λ m e. (Decides-eqb first m.class).1 (sym e)) mine here.own))
-      ∙ ap (λ ms. mine ++ ms) (no_earlier first (suc first) files (omega arith))
-      ∙ append-nil mine
+    ap (filter (is_in_class first)) (split_files first file files) ∙ filter-append (is_in_class first) mine others
+    ∙ ap (λ ms. ms ++ filter (is_in_class first) others) (all_pass (is_in_class first) mine
+    (all_map (λ (m : MemberId). m.class ≡ first) (λ (m : MemberId). is_in_class first m ≡ true) (λ m e. (Decides-eqb first m.class).1 (sym e)) mine here.own))
+    ∙ ap (λ ms. mine ++ ms) (no_earlier first (suc first) files (omega arith))
+    ∙ append-nil mine
     in
     ap (λ n. filter (is_in_class n) (methods_in first (file ∷ files))) start ∙ goal ∙ ap (λ n. map method_of_coded (coded_from n file 0 file.methods)) (sym start)
 class_found first (suc i) (file ∷ files) =
@@ -221,7 +221,7 @@ class_found first (suc i) (file ∷ files) =
     let class = first + suc i in
     ap (filter (is_in_class class)) (split_files first file files) ∙ filter-append (is_in_class class) mine others
     ∙ ap (λ ms. ms ++ filter (is_in_class class) others) (none_pass (is_in_class class) mine
-      (all_map (λ (m : MemberId). m.class ≡ first) (λ (m : MemberId). is_in_class class m ≡ false) (λ m e. not_same class m.class (omega (arith, e))) mine here.own))
+    (all_map (λ (m : MemberId). m.class ≡ first) (λ (m : MemberId). is_in_class class m ≡ false) (λ m e. not_same class m.class (omega (arith, e))) mine here.own))
     ∙ ap (λ n. filter (is_in_class n) others) next ∙ class_found (suc first) i files ∙ ap (λ n. map method_of_coded (coded_at n (slice_get files i))) (sym next)
 
 -- ---- one body for each method
@@ -269,8 +269,8 @@ all_found p before (body ∷ after) rising =
     let whole = before ++ body ∷ after in
     let shift : (before ++ body ∷ []) ++ after ≡ whole = append_assoc before (body ∷ []) after in
     let rest : flat_map (body_found whole) (filter p after) ≡ filter p after =
-      ap (λ bodies. flat_map (body_found bodies) (filter p after)) (sym shift)
-      ∙ all_found p (before ++ body ∷ []) after (subst (λ bodies. AreRising (methods_of_bodies bodies)) (sym shift) rising)
+    ap (λ bodies. flat_map (body_found bodies) (filter p after)) (sym shift)
+    ∙ all_found p (before ++ body ∷ []) after (subst (λ bodies. AreRising (methods_of_bodies bodies)) (sym shift) rising)
     in
     by (p body) whole (found_once before body after rising) rest
   where

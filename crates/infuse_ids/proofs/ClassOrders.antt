@@ -243,12 +243,12 @@ module _ (files : List ClassFile) where
             keeps = λ n e. e;
             adds = λ n e. inl e;
             there = λ n here own.
-              let same = among_one n class here in
-              let own_class : first_own ≤ class = subst (λ (m : ℕ). first_own ≤ m) same (is_file n own) in
-              elim (or_cases (nat_lt class first_own) (is_among class order) e) [
-                | inl library ↦ let no : nat_lt class first_own ≡ false = le-ltb class first_own own_class in cc
-                | inr among ↦ ap (λ m. is_among m order) same ∙ among
-              ];
+                let same = among_one n class here in
+                let own_class : first_own ≤ class = subst (λ (m : ℕ). first_own ≤ m) same (is_file n own) in
+                elim (or_cases (nat_lt class first_own) (is_among class order) e) [
+                  | inl library ↦ let no : nat_lt class first_own ≡ false = le-ltb class first_own own_class in cc
+                  | inr among ↦ ap (λ m. is_among m order) same ∙ among
+                ];
           }
 
       abbrev behind_uppers : List ℕ
@@ -259,10 +259,10 @@ module _ (files : List ClassFile) where
       behind own none =
           let grown = all_grown (number_class files levels) levels grows (rank class) (omega (arith, low)) (uppers class) order part (uppers_in class own) (uppers_fall class) in
           let new : is_among class behind_uppers ≡ false = not_true (is_among class behind_uppers)
-            (λ among. elim (grown.adds class among) [
-              | inl old ↦ cc
-              | inr lower ↦ omega (arith, lower)
-            ])
+          (λ among. elim (grown.adds class among) [
+            | inl old ↦ cc
+            | inr lower ↦ omega (arith, lower)
+          ])
           in
           record {
             part = one_more behind_uppers class grown.part (has_file class inside own) new grown.there;

@@ -32,8 +32,8 @@ module _ (order : List ℕ) (once : IsOnce order) where
   types_from before (class ∷ after) e =
       let types = map class_type before in
       let new : list_any (is_type (class_type class)) types ≡ false =
-        among_types class before
-        ∙ not_both (is_among class before) (is_among class after) (sym (list_any-append (nat_eq class) before after) ∙ once before after class e)
+      among_types class before
+      ∙ not_both (is_among class before) (is_among class after) (sym (list_any-append (nat_eq class) before after) ∙ once before after class e)
       in
       ap (λ b. fold with_type (cond b types (types ++ class_type class ∷ [])) (map class_type after)) new
       ∙ ap (λ (ts : List TypeRef). fold with_type ts (map class_type after)) (sym (map-append class_type before (class ∷ [])))

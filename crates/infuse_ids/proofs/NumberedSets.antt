@@ -51,7 +51,7 @@ module _ (files : List ClassFile) (bodies : List Body) (gathers : Gathers files 
       ∙ ap (λ (x : ℕ). made numbering.types numbering.selectors numbering.methods numbering.layouts numbering.fields x static_cells main_id) r
       ∙ ap (λ (x : List ℕ). made numbering.types numbering.selectors numbering.methods numbering.layouts numbering.fields numbering.static_refs x main_id) c
       ∙ ap (λ (x : ℕ). made numbering.types numbering.selectors numbering.methods numbering.layouts numbering.fields numbering.static_refs numbering.static_cells x)
-        (i ∙ ap (λ (x : List MemberId). method_id x main) method_list)
+      (i ∙ ap (λ (x : List MemberId). method_id x main) method_list)
 
   -- ---- the limits
 

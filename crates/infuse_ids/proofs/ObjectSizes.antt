@@ -48,7 +48,7 @@ adds_cells field is = sum_by field_cells (cond is (field ∷ []) [])
 
 with_adds : (field : Field) (kind : Kind) → field_cells field ≡ passed_cells kind → (refs nums : ℕ)
     → (let counts : Layout = record { refs = refs + adds_refs field (is_reference_kind kind); nums = nums + adds_cells field (is_whole_kind kind) } in
-        let start : Layout = record { refs = refs; nums = nums } in counts ≡ with_kind kind start)
+    let start : Layout = record { refs = refs; nums = nums } in counts ≡ with_kind kind start)
 with_adds field declared.Byte cells refs nums = same_layout (refs + 0) (nums + (0 + field_cells field)) refs (nums + 1) (add-zero refs) (let one : 0 + field_cells field ≡ 1 = zero-add (field_cells field) ∙ cells in ap (λ n. nums + n) one)
 with_adds field declared.Char cells refs nums = same_layout (refs + 0) (nums + (0 + field_cells field)) refs (nums + 1) (add-zero refs) (let one : 0 + field_cells field ≡ 1 = zero-add (field_cells field) ∙ cells in ap (λ n. nums + n) one)
 with_adds field declared.Short cells refs nums = same_layout (refs + 0) (nums + (0 + field_cells field)) refs (nums + 1) (add-zero refs) (let one : 0 + field_cells field ≡ 1 = zero-add (field_cells field) ∙ cells in ap (λ n. nums + n) one)
@@ -65,9 +65,9 @@ one_field_more before field =
     let refs = filter is_reference_field before in
     let nums = filter is_number_field before in
     same_layout (length (filter is_reference_field (before ++ field ∷ []))) (sum_by field_cells (filter is_number_field (before ++ field ∷ [])))
-      (length refs + adds_refs field (is_reference_kind field.kind)) (sum_by field_cells nums + adds_cells field (is_whole_kind field.kind))
-      (ap (λ (fields : List Field). length fields) (filter-append is_reference_field before (field ∷ [])) ∙ length-append refs (cond (is_reference_kind field.kind) (field ∷ []) []))
-      (ap (sum_by field_cells) (filter-append is_number_field before (field ∷ [])) ∙ sum_by-append field_cells nums (cond (is_whole_kind field.kind) (field ∷ []) []))
+    (length refs + adds_refs field (is_reference_kind field.kind)) (sum_by field_cells nums + adds_cells field (is_whole_kind field.kind))
+    (ap (λ (fields : List Field). length fields) (filter-append is_reference_field before (field ∷ [])) ∙ length-append refs (cond (is_reference_kind field.kind) (field ∷ []) []))
+    (ap (sum_by field_cells) (filter-append is_number_field before (field ∷ [])) ∙ sum_by-append field_cells nums (cond (is_whole_kind field.kind) (field ∷ []) []))
     ∙ with_adds field field.kind refl (length refs) (sum_by field_cells nums)
 
 -- the fields of a class, one by one

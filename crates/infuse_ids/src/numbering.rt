@@ -21,7 +21,6 @@ use crate::refusal::IdsRefusal;
 use crate::selectors::selector_order;
 use crate::sizes::object_sizes;
 use crate::statics::{Statics, initial_statics};
-
 use body_form::Body;
 use body_make::main_method;
 use class_pool::MemberId;
@@ -36,9 +35,13 @@ const LIBRARY_IDS: u32 = 32;
 
 /// What is counted, as refusals name it.
 const TYPES: u8 = 2;
+
 const SELECTORS: u8 = 3;
+
 const METHODS: u8 = 4;
+
 const STATIC_REFS: u8 = 5;
+
 const STATIC_CELLS: u8 = 6;
 
 /// The most types.
@@ -119,11 +122,7 @@ fn object_layouts(
 }
 
 /// The static references and the cells of the other static fields of a set, within their limits.
-fn static_numbers(
-    alloc: Global,
-    set: &ClassSet,
-    order: &[u16],
-) -> Result<Statics, IdsRefusal>
+fn static_numbers(alloc: Global, set: &ClassSet, order: &[u16]) -> Result<Statics, IdsRefusal>
     requires { order.now ≡ class_order_of set.now }
     ensures refs { IfOk result (λ statics. statics.refs ≡ length (filter is_reference_field (static_fields set.now))) }
     ensures cells { IfOk result (λ statics. statics.cells.items ≡ flat_map (initial_cells set.now) (filter is_number_field (static_fields set.now))) }
@@ -196,11 +195,7 @@ struct FieldNumbers {
 }
 
 /// The static fields, the layouts and the places of the fields of a set, within their limits.
-fn fields(
-    alloc: Global,
-    set: &ClassSet,
-    order: &IndexSet<u16>,
-) -> Result<FieldNumbers, IdsRefusal>
+fn fields(alloc: Global, set: &ClassSet, order: &IndexSet<u16>) -> Result<FieldNumbers, IdsRefusal>
     requires closed { Gathers set.now None }
     requires order { order.now.keys ≡ class_order_of set.now }
     ensures refs { IfOk result (λ fields. fields.statics.refs ≡ length (filter is_reference_field (static_fields set.now))) }

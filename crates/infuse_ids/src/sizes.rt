@@ -60,12 +60,7 @@ fn with_kind(kind: &Kind, sizes: Sizes) -> Result<Sizes, IdsRefusal>
 }
 
 /// The sizes with a field, where it is one of objects.
-fn with_field(
-    alloc: Global,
-    pool: &Pool,
-    field: &Member,
-    sizes: Sizes,
-) -> Result<Sizes, IdsRefusal>
+fn with_field(alloc: Global, pool: &Pool, field: &Member, sizes: Sizes) -> Result<Sizes, IdsRefusal>
     ensures with { IfOk result (λ new. sized new ≡ with_member pool.now (sized sizes) field.now) }
     ensures memory { IfErr result (λ why. why ≡ Memory) }
 {
@@ -100,7 +95,11 @@ fn with_fields(
 
 /// The sizes of the objects of a class: those of its position, and none of a class of the library. A class that has no
 /// position yet, as none above another one has in a closed set, is answered as want of memory.
-pub(crate) fn size_at(order: &IndexSet<u16>, sizes: &[Sizes], class: u16) -> Result<Sizes, IdsRefusal>
+pub(crate) fn size_at(
+    order: &IndexSet<u16>,
+    sizes: &[Sizes],
+    class: u16,
+) -> Result<Sizes, IdsRefusal>
     ensures size { IfOk result (λ size. (files : List Record) (many : ℕ) → map sized sizes.now ≡ map (layout_of files) (take many order.now.keys) → sized size ≡ layout_of files class) }
     ensures memory { IfErr result (λ why. why ≡ Memory) }
 {

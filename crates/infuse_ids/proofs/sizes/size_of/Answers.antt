@@ -16,9 +16,9 @@ returns-in-Some-clause-size c =
     IfOk-weaker c.with_fields.result (λ (size : Sizes). sized size ≡ fold (with_member file.pool) start c.as_slice.result.now)
     (λ (size : Sizes). (many : ℕ) → map sized c.args.sizes.now ≡ map (layout_of files) (take many c.args.order.now.keys) → sized size ≡ layout_of files c.args.class)
     (λ size e many are.
-      e ∙ ap (fold (with_member file.pool) start) c.as_slice.ensures
-      ∙ ap (λ (counts : Layout). fold (with_member file.pool) counts file.fields) (c.in-Ok.ensures.size many are)
-      ∙ with_file files c.requires c.args.class file c.in-Some.ensures)
+    e ∙ ap (fold (with_member file.pool) start) c.as_slice.ensures
+    ∙ ap (λ (counts : Layout). fold (with_member file.pool) counts file.fields) (c.in-Ok.ensures.size many are)
+    ∙ with_file files c.requires c.args.class file c.in-Some.ensures)
     c.with_fields.ensures.with
 
 pub returns-in-None-clause-size : goal.returns-in-None-clause-size
