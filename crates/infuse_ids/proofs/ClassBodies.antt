@@ -1,9 +1,9 @@
 -- The bodies of a set, class by class.
 use Rattle.std.proofs.Common.{◌≡◌, ◌⊎◌, ℕ, zero, suc, ◌+◌, ◌-◌, ◌<◌, ◌≤◌, Bool, true, false, ◌&&◌, nat_eq, nat_lt, cond, inl, inr, List, [], ◌∷◌, ◌++◌, map, filter, take, drop, length, get_or, slice_get, Option, Some, None, option_and_then, option_map, refl, sym, ap, subst, ◌∙◌, arith}
-use Rattle.std.specs.List.{AllByRecursion, AllWithin, flat_map, fold}
-use Rattle.std.specs.List.Sorted.{IsNonDecreasingBy, IsPartitionPoint}
+use Rattle.std.specs.List.{AllByRecursion, flat_map}
+use Rattle.std.specs.List.Sorted.{IsPartitionPoint}
 use Rattle.std.specs.Option.{option_map_or, option_to_list}
-use Rattle.std.proofs.lemmas.Bool.{lt-ltb, le-ltb, cases_lt, eqb-true, eq-eqb, ltb-true, ltb-false}
+use Rattle.std.proofs.lemmas.Bool.{lt-ltb, le-ltb, cases_lt, ltb-true, ltb-false}
 use Rattle.std.proofs.lemmas.Bool.Decides.{Decides-eqb, eqb_tells}
 use Rattle.std.proofs.lemmas.List.{map-append, append-nil, append_assoc}
 use Rattle.std.proofs.lemmas.List.Elements.{filter-append}
@@ -14,7 +14,6 @@ use Rattle.class_pool.specs.declared.types.MemberId.{MemberId}
 use Rattle.class_file.specs.declared.record.ClassFile.{ClassFile}
 use Rattle.class_file.specs.declared.record.Member.{Member}
 use Rattle.class_tree.specs.Members.{member_at}
-use Rattle.class_tree.specs.Set.{file_of}
 use Rattle.class_tree.proofs.lookups.Climbing.{all_map, all_append}
 use Rattle.body_form.specs.declared.body.Body.{Body}
 use Rattle.class_tree.proofs.ancestors.Leading.{and_both}
@@ -23,7 +22,7 @@ use Rattle.class_file.specs.declared.record.CodeAttr.{CodeAttr}
 use Rattle.jvm_model.specs.Linking.{is_initialiser}
 use Rattle.jvm_model.specs.ProgramOf.{insns_in}
 use Rattle.jvm_model.specs.Bodies.{AreEach, Coded, IsBody, AreBodies, coded_of, coded_from, coded_in, coded_methods}
-use Rattle.jvm_model.specs.ImageNumbering.{class_order, coded_in_class, method_order, is_member, is_body_of, bodies_in_order}
+use Rattle.jvm_model.specs.ImageNumbering.{class_order, coded_in_class, method_order, is_body_of, bodies_in_order}
 use Rattle.infuse_ids.specs.Orders.{AreByClass, is_of_class, bodies_of_class, method_of_body, methods_over}
 
 -- ---- lists that are filtered

@@ -12,11 +12,11 @@ use Rattle.class_file.specs.declared.record.ClassFile.{ClassFile}
 use Rattle.class_tree.specs.Closure.{leads_over}
 use Rattle.class_tree.specs.DirectSupers.{class_count, superclass_of, superinterfaces_of}
 use Rattle.class_tree.specs.Ranks.{how_many, AreRanks}
-use Rattle.class_tree.specs.Set.{IsClass, own_name, file_of, named_among, library_superclass, is_directly_below}
+use Rattle.class_tree.specs.Set.{IsClass, own_name, file_of, named_among, is_directly_below}
 use Rattle.class_tree.specs.Tree.{Gathers}
 use Rattle.class_tree.proofs.ancestors.Acyclic.{ranks_by_ways}
 use Rattle.class_tree.proofs.ancestors.Leading.{or_cases, or_left, or_right}
-use Rattle.class_tree.proofs.ancestors.Superclasses.{named_class, super_by_library, super_by_file}
+use Rattle.class_tree.proofs.ancestors.Superclasses.{named_class, super_by_file}
 use Rattle.class_tree.proofs.ancestors.SupersAbove.{superclasses_fall, superinterfaces_fall}
 use Rattle.class_tree.proofs.lookups.Climbing.{all_append}
 use Rattle.jvm_model.specs.ImageNumbering.{is_among, number_class, class_order, IsClassOrder}

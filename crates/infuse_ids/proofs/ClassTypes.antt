@@ -9,7 +9,7 @@ use Rattle.class_tree.specs.Subtypes.{class_type}
 use Rattle.class_tree.specs.Tree.{Gathers}
 use Rattle.body_form.specs.declared.body.Body.{Body}
 use Rattle.jvm_model.specs.Bodies.{AreBodies}
-use Rattle.jvm_model.specs.ImageNumbering.{is_among, is_type, with_type, with_body, class_order, type_order, bodies_in_order}
+use Rattle.jvm_model.specs.ImageNumbering.{is_among, is_type, with_type, with_body, class_order, type_order}
 use Rattle.infuse_ids.specs.Orders.{bodies_of_class, class_types, types_over}
 use Rattle.infuse_ids.proofs.ClassBodies.{bodies_right}
 use Rattle.infuse_ids.proofs.ClassOrders.{right_order}

@@ -1,8 +1,7 @@
 -- The numbering of a set, list by list, and which count is the first above its limit.
-use Rattle.std.proofs.Common.{◌≡◌, ℕ, ◌+◌, List, Option, Some, None, map, filter, length, sym, ap, subst, ◌∙◌}
+use Rattle.std.proofs.Common.{◌≡◌, ℕ, ◌+◌, List, Option, None, map, filter, length, sym, ap, subst, ◌∙◌}
 use Rattle.std.specs.List.{flat_map}
 use Rattle.std.specs.Option.{option_or}
-use Rattle.library.specs.Classes.{first_own}
 use Rattle.class_pool.specs.declared.types.MemberId.{MemberId}
 use Rattle.class_pool.specs.declared.types.TypeRef.{TypeRef}
 use Rattle.class_file.specs.declared.record.ClassFile.{ClassFile}
@@ -14,7 +13,7 @@ use Rattle.jvm_model.specs.declared.numbers.Layout.{Layout}
 use Rattle.jvm_model.specs.declared.numbers.Selector.{Selector}
 use Rattle.jvm_model.specs.Bodies.{AreBodies}
 use Rattle.jvm_model.specs.ImageLimits.{excess, first_excess, first_large, file_layouts}
-use Rattle.jvm_model.specs.ImageNumbering.{Numbering, numbering_of, class_order, type_order, method_order, method_id, layout_of, all_fields, place_of, static_fields, is_reference_field, is_number_field, initial_cells}
+use Rattle.jvm_model.specs.ImageNumbering.{Numbering, numbering_of, class_order, type_order, method_id, layout_of, all_fields, place_of, static_fields, is_reference_field, is_number_field, initial_cells}
 use Rattle.infuse_ids.specs.declared.refusal.IdsRefusal.{IdsRefusal}
 use Rattle.infuse_ids.specs.Orders.{methods_over, types_over, selectors_over}
 use Rattle.infuse_ids.specs.Sizes.{RefusesFor, field_excess, list_excess}

@@ -1,30 +1,28 @@
 -- The sizes of objects: those of the superclass, and then the fields of the class one by one.
-use Rattle.std.proofs.Common.{◌≡◌, ℕ, zero, suc, ◌+◌, ◌-◌, ◌<◌, ◌≤◌, Bool, true, false, not, nat_eq, nat_lt, cond, inl, inr, List, [], ◌∷◌, ◌++◌, map, filter, length, take, get_or, slice_get, position, Option, Some, None, option_map, option_and_then, unwrap_or, refl, sym, ap, subst, ◌∙◌, arith, add-zero, zero-add}
-use Rattle.std.specs.List.{fold, sum_by, list_all}
+use Rattle.std.proofs.Common.{◌≡◌, ℕ, zero, suc, ◌+◌, ◌<◌, Bool, true, false, not, nat_eq, cond, List, [], ◌∷◌, ◌++◌, map, filter, length, take, get_or, slice_get, position, Option, Some, None, option_map, unwrap_or, refl, sym, ap, ◌∙◌, add-zero, zero-add}
+use Rattle.std.specs.List.{fold, sum_by}
 use Rattle.std.specs.Option.{option_map_or}
-use Rattle.std.proofs.lemmas.Bool.{lt-ltb, ltb-true, eqb-true, and_parts}
+use Rattle.std.proofs.lemmas.Bool.{eqb-true}
 use Rattle.std.proofs.lemmas.List.{append-nil, append_assoc, length-append}
 use Rattle.std.proofs.lemmas.List.Elements.{filter-append}
 use Rattle.std.proofs.lemmas.List.Quantifiers.{position-Some}
 use Rattle.std.proofs.lemmas.List.Sums.{sum_by-append}
 use Rattle.std.proofs.lemmas.Option.{slice_get-map}
-use Rattle.library.specs.Classes.{first_own, superclasses}
+use Rattle.library.specs.Classes.{first_own}
 use Rattle.class_pool.specs.declared.descriptor.Kind.{Kind}
 use Rattle.class_pool.specs.declared.descriptor.Kind.TheVariants as declared
 use Rattle.class_file.specs.Rules.{is_static}
 use Rattle.class_file.specs.declared.record.ClassFile.{ClassFile}
 use Rattle.class_file.specs.declared.record.Member.{Member}
-use Rattle.class_tree.specs.DirectSupers.{class_count, superclass_of}
+use Rattle.class_tree.specs.DirectSupers.{superclass_of}
 use Rattle.class_tree.specs.Members.{member_at}
-use Rattle.class_tree.specs.Set.{file_of, library_superclass}
+use Rattle.class_tree.specs.Set.{file_of}
 use Rattle.class_tree.specs.Tree.{Gathers}
-use Rattle.class_tree.proofs.ancestors.Superclasses.{super_by_library}
 use Rattle.jvm_model.specs.declared.numbers.Layout.{Layout}
 use Rattle.jvm_model.specs.Initialisers.{is_reference_kind, is_whole_kind}
 use Rattle.jvm_model.specs.InitialStatics.{kind_of}
-use Rattle.jvm_model.specs.ImageNumbering.{Field, fields_from, class_fields, object_fields, fields_of_object, layout_of, is_reference_field, is_number_field, field_cells}
+use Rattle.jvm_model.specs.ImageNumbering.{Field, fields_from, fields_of_object, layout_of, is_reference_field, is_number_field, field_cells}
 use Rattle.jvm_model.specs.WidthsSlots.{passed_cells}
-use Rattle.infuse_ids.specs.Layouts.{own_fields}
 use Rattle.infuse_ids.specs.declared.sizes.Sizes.{Sizes}
 use Rattle.infuse_ids.specs.Places.{layout_in, of_objects, with_kind}
 use Rattle.infuse_ids.specs.Sizes.{with_member, sized}

@@ -1,18 +1,15 @@
 -- How large objects are, and which counts are above their limits.
-use Rattle.std.specs.Prelude.{◌≡◌, ◌⊎◌, ℕ, ◌+◌, not, if◌then◌else◌, List, map, filter, length, Option, Some, option_map}
-use Rattle.std.specs.List.{flat_map, sum_by}
+use Rattle.std.specs.Prelude.{◌≡◌, ◌⊎◌, ℕ, ◌+◌, if◌then◌else◌, List, filter, length, Option, Some, option_map}
+use Rattle.std.specs.List.{flat_map}
 use Rattle.std.specs.Option.{option_or}
-use Rattle.class_pool.specs.declared.descriptor.Kind.{Kind}
 use Rattle.class_pool.specs.Pool.{Slots}
 use Rattle.class_file.specs.Rules.{is_static}
 use Rattle.class_file.specs.declared.record.ClassFile.{ClassFile}
 use Rattle.class_file.specs.declared.record.Member.{Member}
 use Rattle.jvm_model.specs.declared.numbers.Layout.{Layout}
 use Rattle.jvm_model.specs.ImageLimits.{excess, first_large, file_layouts}
-use Rattle.jvm_model.specs.Initialisers.{is_reference_kind}
 use Rattle.jvm_model.specs.InitialStatics.{kind_of}
-use Rattle.jvm_model.specs.ImageNumbering.{Field, initial_cells, is_reference_field, is_number_field, field_cells, static_fields}
-use Rattle.jvm_model.specs.WidthsSlots.{passed_cells}
+use Rattle.jvm_model.specs.ImageNumbering.{initial_cells, is_reference_field, is_number_field, static_fields}
 use Rattle.body_form.specs.declared.body.Body.{Body}
 use Rattle.infuse_ids.specs.Orders.{methods_over, selectors_over, types_over}
 use Rattle.infuse_ids.specs.Places.{with_kind}

@@ -1,8 +1,8 @@
-use Rattle.std.proofs.Common.{ℕ, ◌+◌, length, Option}
+use Rattle.std.proofs.Common.{◌+◌, length}
 use Rattle.std.specs.Option.{option_or}
 use Rattle.jvm_model.specs.ImageLimits.{excess}
 use Rattle.infuse_ids.specs.Orders.{methods_over, selectors_over, types_over}
-use Rattle.infuse_ids.proofs.LargeObjects.{refuses_first, refuses_later, none_of_both}
+use Rattle.infuse_ids.proofs.LargeObjects.{refuses_first, refuses_later}
 use Rattle.infuse_ids.proofs.numbering.lists.Goals as goal
 
 pub returns-in-Err-clause-refused : goal.returns-in-Err-clause-refused

@@ -1,4 +1,4 @@
-use Rattle.std.proofs.Common.{◌≡◌, ℕ, List, None, ap, sym, subst, ◌∙◌}
+use Rattle.std.proofs.Common.{ℕ, List, ap, sym, subst, ◌∙◌}
 use Rattle.infuse_ids.specs.Orders.{methods_over, selectors_over, types_over}
 use Rattle.infuse_ids.specs.Sizes.{RefusesFor, list_excess}
 use Rattle.infuse_ids.proofs.ClassBodies.{are_by_class}
