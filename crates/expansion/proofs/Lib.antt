@@ -4,3 +4,5 @@ pub mod Arguments
 pub mod Alike
 pub mod Rows
 pub mod Limits
+pub mod ExpansionSizes
+pub mod SizesBelow
