@@ -1,1 +1,6 @@
 pub mod Emitted
+pub mod OffsetLists
+pub mod ShapeLists
+pub mod RowHeights
+pub mod NextPcs
+pub mod NotedWidths

@@ -1,1 +1,4 @@
 pub mod Instruction
+pub mod Parts
+pub mod Offsets
+pub mod Shapes
