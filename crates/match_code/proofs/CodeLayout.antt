@@ -1,5 +1,5 @@
 -- Where the expansions of a body's instructions stand in its code, and how offsets grow.
-use Rattle.std.proofs.Common.{◌≡◌, ◌⊎◌, inl, inr, ℕ, suc, ◌+◌, ◌<◌, ◌≤◌, Bool, true, false, nat_eq, nat_lt, if◌then◌else◌, List, [], ◌∷◌, ◌++◌, length, Some, None, refl, sym, ap, ◌∙◌, append_assoc, length-append, arith}
+use Rattle.std.proofs.Common.{◌≡◌, ◌⊎◌, inl, inr, ℕ, suc, ◌+◌, ◌<◌, ◌≤◌, Bool, true, false, nat_eq, if◌then◌else◌, List, [], ◌∷◌, ◌++◌, length, Some, None, refl, sym, ap, ◌∙◌, append_assoc, length-append, arith}
 use Rattle.std.specs.List.{flat_map}
 use Rattle.std.proofs.lemmas.Bool.{cases_lt}
 use Rattle.std.proofs.lemmas.Bool.Decides.{nat_tests}
@@ -13,7 +13,8 @@ use Rattle.jvm_model.specs.WidthsShapes.{pc_after}
 use Rattle.jvm_model.specs.ImageExpansion.{Emitted, bytes_of}
 use Rattle.jvm_model.specs.ImageEmission.{Source, expansion_at, bytes_at, size_at, size_below, fill_bytes, offset_of, code_of}
 use Rattle.typed_machine.specs.TypedWorld as typed
-use Rattle.match_code.proofs.ExpansionSizes.{size_is}
+use Rattle.expansion.proofs.ExpansionSizes.{size_is}
+use Rattle.expansion.proofs.SizesBelow.{below_none, below_first, below_later}
 
 -- ---- tests of pcs
 
@@ -98,33 +99,17 @@ after_from low ((at, here) ∷ (to, there) ∷ ops) rise pc next is =
 -- ---- sizes below a pc
 
 module _ (source : Source) where
-  pub below_none : (pc : ℕ) → size_below source [] pc ≡ 0
-  unfolding size_below
-  below_none pc = refl
-
-  pub below_first : (x : ℕ × Op) (ops : Ops) (pc : ℕ) → pc ≤ x.0 → size_below source (x ∷ ops) pc ≡ 0
-  unfolding size_below
-  below_first x ops pc le =
-      let fails : nat_lt x.0 pc ≡ false = grind (arith, nat_tests, le) in
-      ap (λ b. if b then size_at source x + size_below source ops pc else 0) fails
-
-  pub below_later : (x : ℕ × Op) (ops : Ops) (pc : ℕ) → x.0 < pc → size_below source (x ∷ ops) pc ≡ size_at source x + size_below source ops pc
-  unfolding size_below
-  below_later x ops pc lt =
-      let passes : nat_lt x.0 pc ≡ true = grind (arith, nat_tests, lt) in
-      ap (λ b. if b then size_at source x + size_below source ops pc else 0) passes
-
   below_start : (ops : Ops) → size_below source ops 0 ≡ 0
-  below_start [] = below_none 0
-  below_start (x ∷ ops) = below_first x ops 0 (omega arith)
+  below_start [] = below_none source 0
+  below_start (x ∷ ops) = below_first source x ops 0 (omega arith)
 
   -- sizes below a pc grow with it
   below_keeps : (ops : Ops) (to pc : ℕ) → to ≤ pc → size_below source ops to ≤ size_below source ops pc
-  below_keeps [] to pc le = omega (arith, below_none to)
+  below_keeps [] to pc le = omega (arith, below_none source to)
   below_keeps (x ∷ ops) to pc le =
       elim (cases_lt x.0 to) [
-        | inl less ↦ omega (arith, below_later x ops to less, below_later x ops pc (omega (arith, less, le)), below_keeps ops to pc le)
-        | inr from ↦ omega (arith, below_first x ops to from)
+        | inl less ↦ omega (arith, below_later source x ops to less, below_later source x ops pc (omega (arith, less, le)), below_keeps ops to pc le)
+        | inr from ↦ omega (arith, below_first source x ops to from)
       ]
 
   -- where the bytes of an instruction stand among those of all
@@ -147,7 +132,7 @@ module _ (source : Source) where
                   flat_map-cons (bytes_at source offset) (here, first) ops
                   ∙ ap (λ (n : ℕ). bytes_at source offset (n, first) ++ flat_map (bytes_at source offset) ops) same
                   ∙ ap (λ (o : Op). bytes_at source offset (pc, o) ++ flat_map (bytes_at source offset) ops) found;
-              size = sym (below_first (here, first) ops pc (omega (arith, same)));
+              size = sym (below_first source (here, first) ops pc (omega (arith, same)));
             }
         | inr other ↦
             let there = sym (op_after here first ops pc other) ∙ at in
@@ -161,7 +146,7 @@ module _ (source : Source) where
                   ∙ ap (λ (l : List ℕ). bytes_at source offset (here, first) ++ l) later.bytes_are
                   ∙ sym (append_assoc (bytes_at source offset (here, first)) later.before (bytes_at source offset (pc, instruction) ++ later.after));
               size =
-                  omega (arith, length-append (bytes_at source offset (here, first)) later.before, size_is source offset (here, first), later.size, below_later (here, first) ops pc (omega (arith, past)));
+                  omega (arith, length-append (bytes_at source offset (here, first)) later.before, size_is source offset (here, first), later.size, below_later source (here, first) ops pc (omega (arith, past)));
             }
       ]
 
@@ -176,14 +161,14 @@ module _ (source : Source) where
             let found = some_is first instruction (sym (op_here here first ((to, there) ∷ ops)) ∙ ap (op_at ((here, first) ∷ (to, there) ∷ ops)) same ∙ at) in
             let led = some_is to next (sym (after_here here first to there ops) ∙ ap (pc_after ((here, first) ∷ (to, there) ∷ ops)) same ∙ is) in
             let size : size_at source (here, first) ≡ size_at source (pc, instruction) = ap (λ (n : ℕ). size_at source (n, first)) same ∙ ap (λ (o : Op). size_at source (pc, o)) found in
-            omega (arith, size, below_later (here, first) ((to, there) ∷ ops) next (omega (arith, led, rise.1.0)), below_first (to, there) ops next (omega (arith, led)), below_first (here, first) ((to, there) ∷ ops) pc (omega (arith, same)))
+            omega (arith, size, below_later source (here, first) ((to, there) ∷ ops) next (omega (arith, led, rise.1.0)), below_first source (to, there) ops next (omega (arith, led)), below_first source (here, first) ((to, there) ∷ ops) pc (omega (arith, same)))
         | inr other ↦
             let it = sym (op_after here first ((to, there) ∷ ops) pc other) ∙ at in
             let led = sym (after_later here first to there ops pc other) ∙ is in
             let past = op_from (suc here) ((to, there) ∷ ops) rise.1 pc instruction it in
             let beyond = after_from (suc here) ((to, there) ∷ ops) rise.1 pc next led in
             let later = below_next (suc here) ((to, there) ∷ ops) rise.1 pc instruction it next led in
-            omega (arith, later, below_later (here, first) ((to, there) ∷ ops) pc (omega (arith, past)), below_later (here, first) ((to, there) ∷ ops) next (omega (arith, beyond)))
+            omega (arith, later, below_later source (here, first) ((to, there) ∷ ops) pc (omega (arith, past)), below_later source (here, first) ((to, there) ∷ ops) next (omega (arith, beyond)))
       ]
 
   -- below a pc that is above an instruction are its bytes too
@@ -195,12 +180,12 @@ module _ (source : Source) where
         | inl same ↦
             let found = some_is first instruction (sym (op_here here first ops) ∙ ap (op_at ((here, first) ∷ ops)) same ∙ at) in
             let size : size_at source (here, first) ≡ size_at source (pc, instruction) = ap (λ (n : ℕ). size_at source (n, first)) same ∙ ap (λ (o : Op). size_at source (pc, o)) found in
-            omega (arith, size, below_first (here, first) ops pc (omega (arith, same)), below_later (here, first) ops to (omega (arith, same, lt)))
+            omega (arith, size, below_first source (here, first) ops pc (omega (arith, same)), below_later source (here, first) ops to (omega (arith, same, lt)))
         | inr other ↦
             let it = sym (op_after here first ops pc other) ∙ at in
             let past = op_from (suc here) ops rise.1 pc instruction it in
             let later = below_above (suc here) ops rise.1 pc instruction it to lt in
-            omega (arith, later, below_later (here, first) ops pc (omega (arith, past)), below_later (here, first) ops to (omega (arith, past, lt)))
+            omega (arith, later, below_later source (here, first) ops pc (omega (arith, past)), below_later source (here, first) ops to (omega (arith, past, lt)))
       ]
 
 -- ---- code and offsets

@@ -25,7 +25,7 @@ use Rattle.match_states.specs.Setting.{Setting, IsCompiled, IsCompiledBody, sour
 use Rattle.match_code.specs.Standing.{IsEmittedInsn, AreInsns, fills_for, StandsInExpansion, StandsInFills, WentOver}
 use Rattle.match_code.proofs.CodeLayout.{offset_first, offset_next}
 use Rattle.match_code.proofs.CodePoints.{holds_here, list_over, size_over, after_point, code_at_point, after_fill, code_at_fill}
-use Rattle.match_code.proofs.ExpansionSizes.{size_is}
+use Rattle.expansion.proofs.ExpansionSizes.{size_is}
 
 -- ---- the instruction that is read
 

@@ -1,9 +1,7 @@
 -- Offsets are in the order of pcs, seen from where a frame stands: jumps that lead forward, and rows that cover.
 use Rattle.std.proofs.Common.{◌≡◌, inl, inr, ℕ, ◌+◌, ◌<◌, ◌≤◌, Bool, true, false, ◌&&◌, nat_lt, nat_le, List, [], ◌∷◌, ◌++◌, length, refl, sym, ap, ◌∙◌, length-append, arith}
-use Rattle.std.specs.List.{flat_map}
 use Rattle.std.proofs.lemmas.Bool.{cases_lt}
 use Rattle.std.proofs.lemmas.Bool.Decides.{nat_tests}
-use Rattle.std.proofs.lemmas.List.Concat.{flat_map-cons}
 use Rattle.std.proofs.lemmas.Option.{none-some}
 use Rattle.image_instr.specs.declared.insn.MInsn.{MInsn}
 use Rattle.image_instr.specs.declared.insn.SwitchRow.{SwitchRow}
@@ -13,16 +11,16 @@ use Rattle.image_instr.proofs.encoding.Again.{insn_at-again}
 use Rattle.body_form.specs.declared.body.Body.{Body}
 use Rattle.body_form.specs.declared.body.Guard.{Guard}
 use Rattle.body_form.specs.declared.op.Op.{Op}
-use Rattle.body_form.specs.Flow.{Ops, covers}
-use Rattle.jvm_model.specs.ImageEmission.{Source, bytes_at, size_at, size_below, fill_bytes, offset_of, code_of}
+use Rattle.body_form.specs.Flow.{covers}
+use Rattle.jvm_model.specs.ImageEmission.{size_at, offset_of}
 use Rattle.jvm_model.specs.ImageExpansion.{Emitted, bytes_of}
 use Rattle.mote_model.specs.State.{Frame}
 use Rattle.match_states.specs.Setting.{Setting, IsCompiled, source_for}
 use Rattle.match_code.specs.Standing.{StandsInExpansion}
-use Rattle.match_code.proofs.CodeLayout.{below_first, below_later, below_none, offset_keeps, offset_above}
+use Rattle.match_code.proofs.CodeLayout.{offset_keeps, offset_above}
 use Rattle.match_code.proofs.CodeMoves.{body_rises}
 use Rattle.match_code.proofs.CodePoints.{bytes_cut}
-use Rattle.match_code.proofs.ExpansionSizes.{size_is}
+use Rattle.expansion.proofs.ExpansionSizes.{size_is}
 
 -- ---- an instruction has a byte
 
@@ -32,21 +30,6 @@ no_bytes insn rows (byte ∷ bytes) is e = omega arith
 
 pub some_bytes : (insn : MInsn) (rows : List SwitchRow) → IsInsn insn rows → 0 < length (insn_bytes insn rows)
 some_bytes insn rows is = no_bytes insn rows (insn_bytes insn rows) is refl
-
--- ---- offsets are within the code
-
-module _ (source : Source) where
-  below_within : (offset : ℕ → ℕ) (ops : Ops) (pc : ℕ) → size_below source ops pc ≤ length (flat_map (bytes_at source offset) ops)
-  below_within offset [] pc = omega (arith, below_none source pc)
-  below_within offset (x ∷ ops) pc =
-      let size = ap length (flat_map-cons (bytes_at source offset) x ops) in
-      elim (cases_lt x.0 pc) [
-        | inl less ↦ omega (arith, size, length-append (bytes_at source offset x) (flat_map (bytes_at source offset) ops), size_is source offset x, below_later source x ops pc less, below_within offset ops pc)
-        | inr from ↦ omega (arith, below_first source x ops pc from)
-      ]
-
-  pub offset_within : (pc : ℕ) → offset_of source pc ≤ length (code_of source)
-  offset_within pc = omega (arith, below_within (offset_of source) source.body.ops pc, length-append (fill_bytes source) (flat_map (bytes_at source (offset_of source)) source.body.ops))
 
 -- ---- order
 

@@ -1,5 +1,3 @@
--- an expansion has as many bytes wherever its jumps lead
-pub mod ExpansionSizes
 -- where expansions stand in the code, and how offsets grow
 pub mod CodeLayout
 -- what code follows at a point within an expansion

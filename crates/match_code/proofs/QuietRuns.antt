@@ -22,7 +22,7 @@ use Rattle.match_code.specs.Standing.{AreInsns, emitted_at, StandsInExpansion, S
 use Rattle.match_code.proofs.CodeLayout.{offset_next}
 use Rattle.match_code.proofs.CodeMoves.{body_rises, insn_here}
 use Rattle.match_code.proofs.CodePoints.{list_over, size_over}
-use Rattle.match_code.proofs.ExpansionSizes.{size_is}
+use Rattle.expansion.proofs.ExpansionSizes.{size_is}
 use Rattle.match_code.proofs.MatchedCode.{found_body}
 use Rattle.match_code.proofs.QuietMoves.{GoesOver, quietly_over}
 
