@@ -9,7 +9,7 @@ use jvm_model::Entry;
 
 /// Whether the list, which is in order, has the entry of a local, or of an operand counted from the bottom, before the
 /// instruction at a pc.
-pub(crate) fn has_entry(narrow: &[Entry], pc: u32, operand: bool, place: usize) -> bool
+pub fn has_entry(narrow: &[Entry], pc: u32, operand: bool, place: usize) -> bool
     requires { AllPairs (λ first second. comes_before first second ≡ true) narrow.now }
     ensures { result ≡ is_narrow narrow.now pc operand place }
 {

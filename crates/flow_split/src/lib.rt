@@ -31,6 +31,7 @@ mod totals;
 mod walk;
 mod widths;
 
+pub use entries::has_entry;
 pub use frame::split;
 pub use laws::right_types_name_locals;
 pub use moves::{Move, moves_are_enough};
