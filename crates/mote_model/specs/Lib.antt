@@ -7,3 +7,5 @@ pub mod SplitMoves
 pub mod SplitObjects
 pub mod SplitStep
 pub mod SplitRun
+pub mod Picture
+pub mod Turns

@@ -1,10 +1,16 @@
 //! The split machine: what an infusion means, over frames that keep references and cells apart. The
 //! definitions are in specs/: a state (State), numbers in cells (Numbers), the step of each machine
-//! instruction and the limited run (Machine). The one type is that of an ending, of which `ConsoleFault`
-//! is no ending of the definitions: they know no console that fails. This crate stands on `image_form`,
-//! whose record an infusion is, `image_instr`, `cell_num` and `dialogue`.
+//! instruction and the limited run (Machine). Of the type of an ending, `ConsoleFault`
+//! is no ending of the definitions: they know no console that fails. The memory of a mote is `State`; which
+//! states of the split machine it stands for (Picture) and what the `Turn` of a step says (Turns) are in
+//! specs/ too. This crate stands on `image_form`, whose record an infusion is, `mote_stack`, `image_instr`,
+//! `account`, `cell_num` and `dialogue`.
 #![tactic(auto)]
 
 mod ending;
+mod memory;
+mod turn;
 
 pub use ending::Ending;
+pub use memory::State;
+pub use turn::Turn;
