@@ -36,5 +36,9 @@ pub mod ImageClasses
 pub mod SupersInside
 -- types begin with the classes
 pub mod TypesBegin
+-- entries of classes at their places
+pub mod ClassEntries
+-- the classes of a closed set stand in its image
+pub mod ClassesStand
 -- places of classes among the types
 pub mod ClassPlaces

@@ -13,7 +13,7 @@ use Rattle.class_tree.proofs.ancestors.Superclasses.{named_class, next_class}
 use Rattle.jvm_model.specs.ImageNumbering.{is_among}
 use Rattle.follow_numbers.proofs.ClassesUp.{supers_of}
 
-among_either : (number : ℕ) (found : Option ℕ) (rest : List ℕ) → is_among number (option_to_list found ++ rest) ≡ true → (found ≡ Some number) ⊎ (is_among number rest ≡ true)
+pub among_either : (number : ℕ) (found : Option ℕ) (rest : List ℕ) → is_among number (option_to_list found ++ rest) ≡ true → (found ≡ Some number) ⊎ (is_among number rest ≡ true)
 among_either number None rest e = inr e
 among_either number (Some other) rest e =
     elim (or_cases (nat_eq number other) (is_among number rest) e) [
