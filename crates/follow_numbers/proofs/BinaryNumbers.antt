@@ -7,7 +7,9 @@ use Rattle.image_instr.specs.declared.insn.MInsn.TheVariants as insns
 use Rattle.image_instr.specs.declared.insn.Width.{Width}
 use Rattle.image_instr.specs.declared.insn.Width.TheVariants as width
 use Rattle.body_form.specs.declared.op.Op.TheVariants as op
+use Rattle.class_tree.specs.Tree.{Gathers}
 use Rattle.jvm_model.specs.ImageExpansion.{alone, operation_of}
+use Rattle.jvm_model.specs.ImageLimits.{first_excess}
 use Rattle.jvm_model.specs.State.{Value, Whole}
 use Rattle.mote_model.specs.Numbers.{op_of}
 use Rattle.mote_model.specs.SplitMoves.{SplitMove, with_cells, push_number, take_number}
@@ -23,7 +25,8 @@ use Rattle.follow_numbers.specs.WideCode.{value_cells, IsWideCode, StandsAt}
 use Rattle.follow_numbers.proofs.NextStates.{body_at, typed_move}
 use Rattle.follow_numbers.proofs.NextMoves.{AreMatched, next_offset, both_go_on}
 use Rattle.follow_numbers.proofs.TakenNumbers.{AsksOne, take_int, two_numbers, refs_of, cells_of, ints_of, top_is_two}
-use Rattle.follow_numbers.proofs.MachineThrows.{ThrowsAlike, throw_follows}
+use Rattle.follow_numbers.proofs.MachineThrows.{throw_follows}
+use Rattle.follow_numbers.proofs.LibraryObjects.{arithmetic_alike}
 
 same_operation : (o : BinOp) → op_of (operation_of o) ≡ o
 same_operation bin.Add = refl
@@ -38,7 +41,7 @@ same_operation bin.And = refl
 same_operation bin.Or = refl
 same_operation bin.Xor = refl
 
-module _ {setting : Setting} {state : State} {other : split.State} (code : IsWideCode setting) (alike : ThrowsAlike setting arithmetic_exception) where
+module _ {setting : Setting} {state : State} {other : split.State} (code : IsWideCode setting) (closed : Gathers setting.world.files None) (within : first_excess setting.world.files setting.numbering ≡ None) where
   pub bin_follows : (operation : BinOp) → StandsAt setting state other (op.Bin operation) → AreMatched setting state other
   bin_follows operation here =
       let next = pc_after (body_at here).ops here.frame.pc in
@@ -62,7 +65,7 @@ module _ {setting : Setting} {state : State} {other : split.State} (code : IsWid
       let typed_gives = step.result setting.world state here.frame here.frames next numbers.below in
       let by_result : (found : Option ℤ) → applied operation numbers.a numbers.b ≡ found → AreMatched setting state other = λ found is.
       elim found as (λ found. applied operation numbers.a numbers.b ≡ found → AreMatched setting state other) [
-        | None ↦ λ is. throw_follows code here arithmetic_exception alike insn [] emitted (typed ∙ ap typed_gives is) (moves ∙ ap gives is)
+        | None ↦ λ is. throw_follows code here arithmetic_exception (arithmetic_alike setting code.compiled closed within) insn [] emitted (typed ∙ ap typed_gives is) (moves ∙ ap gives is)
         | Some number ↦ λ is.
             both_go_on code here insn [] emitted (Whole number ∷ numbers.below) (push_number width.Two number rest)
             (record { method = refl; ref_locals = refl; cell_locals = refl; refs = refs_of code here operands numbers.are; cells = refl })

@@ -15,13 +15,15 @@ use Rattle.class_tree.specs.Tree.{Gathers}
 use Rattle.class_tree.proofs.ancestors.Superclasses.{next_class, super_by_library}
 use Rattle.image_form.specs.declared.record.TypeEntry.{TypeEntry}
 use Rattle.image_form.specs.declared.record.TypeEntry.TheVariants as entry
+use Rattle.jvm_model.specs.ImageLimits.{first_excess}
 use Rattle.jvm_model.specs.ImageNumbering.{class_order, is_among, is_type}
 use Rattle.jvm_model.specs.ImageTables.{class_entry_of}
 use Rattle.class_order.proofs.ClassOrders.{right_order}
 use Rattle.class_order.proofs.SetClasses.{has_file}
 use Rattle.mote_model.specs.SplitTypes.{entry_at, above, above_entry, elements_of}
 use Rattle.match_states.specs.Setting.{Setting, IsCompiled}
-use Rattle.follow_numbers.proofs.CaughtClasses.{class_id, ClassesAgree}
+use Rattle.follow_numbers.proofs.CaughtClasses.{class_id, ClassesAgree, all_catch_alike}
+use Rattle.follow_numbers.proofs.CaughtFrames.{AllCatchAlike}
 use Rattle.follow_numbers.proofs.ClassEntries.{placed, id_at}
 use Rattle.follow_numbers.proofs.ClassPlaces.{first_place}
 use Rattle.follow_numbers.proofs.ClassesUp.{supers_of}
@@ -195,3 +197,7 @@ module _ (setting : Setting) (compiled : IsCompiled setting) (closed : Gathers s
 
   pub agree : (class : ℕ) → IsClass setting.world.files class → ClassesAgree setting class
   agree = classes_agree setting closed has_classes
+
+  -- the rows of all bodies catch alike what is of a class of the set
+  pub catch_alike : first_excess setting.world.files setting.numbering ≡ None → (class : ℕ) → IsClass setting.world.files class → AllCatchAlike setting (class_id setting class) class
+  catch_alike within class is = all_catch_alike setting compiled within class (agree class is)

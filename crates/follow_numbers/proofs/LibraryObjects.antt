@@ -1,18 +1,20 @@
 -- Objects of the library's classes, which have no fields, are the same for both machines where the machine throws them.
-use Rattle.std.proofs.Common.{◌≡◌, ℕ, zero, suc, ◌+◌, not, List, [], ◌++◌, map, filter, Option, Some, None, refl, sym, ap, ◌∙◌, arith}
+use Rattle.std.proofs.Common.{◌≡◌, ℕ, zero, suc, ◌+◌, not, inl, List, [], ◌++◌, map, filter, Option, Some, None, refl, sym, ap, ◌∙◌, arith}
 use Rattle.std.specs.Prelude.{sum}
 use Rattle.std.specs.Option.{option_map_or}
 use Rattle.class_file.specs.declared.record.ClassFile.{ClassFile}
 use Rattle.class_tree.specs.DirectSupers.{class_count, superclass_of}
 use Rattle.class_tree.specs.Members.{fields_of, in_file}
 use Rattle.class_tree.specs.Set.{file_of}
+use Rattle.class_tree.specs.Tree.{Gathers}
+use Rattle.jvm_model.specs.ImageLimits.{first_excess}
 use Rattle.jvm_model.specs.ImageNumbering.{Field, class_fields, fields_from, object_fields}
 use Rattle.mote_model.specs.SplitTypes as split_types
 use Rattle.typed_machine.specs.TypedWorld.{cells_of_field, field_cells, new_object}
 use Rattle.typed_machine.specs.TypedMoves.{arithmetic_exception}
 use Rattle.match_states.specs.MatchedObjects.{ObjectMatches, references_in, cells_in}
-use Rattle.match_states.specs.Setting.{Setting}
-use Rattle.follow_numbers.proofs.CaughtFrames.{AllCatchAlike}
+use Rattle.match_states.specs.Setting.{Setting, IsCompiled}
+use Rattle.follow_numbers.proofs.ClassesStand.{catch_alike}
 use Rattle.follow_numbers.proofs.MachineThrows.{ThrowsAlike}
 
 -- a class and those above it have no fields, so many levels up
@@ -58,9 +60,9 @@ module _ (files : List ClassFile) where
   pub arithmetic_bare : IsBare files arithmetic_exception
   arithmetic_bare = below_bare 4 3 refl refl (below_bare 3 2 refl refl (below_bare 2 1 refl refl (below_bare 1 0 refl refl root_bare)))
 
--- the machines throw ArithmeticException alike, where rows catch it alike
-pub arithmetic_alike : (setting : Setting) → AllCatchAlike setting arithmetic_exception arithmetic_exception → ThrowsAlike setting arithmetic_exception
-arithmetic_alike setting catch =
+-- the machines throw ArithmeticException alike
+pub arithmetic_alike : (setting : Setting) → IsCompiled setting → Gathers setting.world.files None → first_excess setting.world.files setting.numbering ≡ None → ThrowsAlike setting arithmetic_exception
+arithmetic_alike setting compiled closed within =
     let files = setting.world.files in
     let bare = arithmetic_bare files in
     let none = bare.fields (class_count files) in
@@ -72,4 +74,4 @@ arithmetic_alike setting catch =
       refs_are = sym (ap (references_in _) none);
       cells_are = sym (ap (cells_in _) none);
     } in
-    record { id = refl; object = object; cells = ap (λ (cells : ℕ). 2 + cells) no_cells; catch = catch }
+    record { id = refl; object = object; cells = ap (λ (cells : ℕ). 2 + cells) no_cells; catch = catch_alike setting compiled closed within arithmetic_exception (inl (omega arith)) }
