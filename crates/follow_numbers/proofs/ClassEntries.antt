@@ -1,5 +1,5 @@
 -- The entry of an own class stands in the image at the place of the class in the order of classes.
-use Rattle.std.proofs.Common.{◌≡◌, ℕ, suc, ◌+◌, ◌-◌, ◌≤◌, Bool, true, false, cond, nat_eq, nat_lt, List, [], ◌∷◌, ◌++◌, map, length, Option, Some, None, is_some, slice_get, refl, sym, ap, ◌∙◌, arith, append_assoc}
+use Rattle.std.proofs.Common.{◌≡◌, ℕ, suc, ◌+◌, ◌-◌, ◌≤◌, Bool, true, false, cond, nat_eq, List, [], ◌∷◌, ◌++◌, map, length, Option, Some, None, is_some, slice_get, refl, ap, ◌∙◌, arith, append_assoc}
 use Rattle.std.specs.List.{flat_map}
 use Rattle.std.specs.Option.{option_map_or}
 use Rattle.std.proofs.lemmas.Bool.{le-ltb}
@@ -14,7 +14,7 @@ use Rattle.class_tree.proofs.ancestors.Leading.{or_right}
 use Rattle.image_form.specs.declared.record.Image.{Image}
 use Rattle.image_form.specs.declared.record.TypeEntry.{TypeEntry}
 use Rattle.image_form.specs.declared.record.TypeEntry.TheVariants as entry
-use Rattle.jvm_model.specs.ImageNumbering.{Numbering, class_order, is_among, type_id, IsClassOrder}
+use Rattle.jvm_model.specs.ImageNumbering.{Numbering, class_order, is_among, type_id}
 use Rattle.jvm_model.specs.ImageTables.{class_entry_of, entry_of}
 use Rattle.class_order.proofs.AmongNumbers.{among_here, among_left}
 use Rattle.class_order.proofs.ClassOrders.{right_order}
