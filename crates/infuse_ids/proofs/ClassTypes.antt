@@ -12,7 +12,7 @@ use Rattle.jvm_model.specs.Bodies.{AreBodies}
 use Rattle.jvm_model.specs.ImageNumbering.{is_among, is_type, with_type, with_body, class_order, type_order}
 use Rattle.infuse_ids.specs.Orders.{bodies_of_class, class_types, types_over}
 use Rattle.infuse_ids.proofs.ClassBodies.{bodies_right}
-use Rattle.infuse_ids.proofs.ClassOrders.{right_order}
+use Rattle.class_order.proofs.ClassOrders.{right_order}
 
 not_both : (a b : Bool) → (a || b) ≡ false → a ≡ false
 not_both false b e = refl

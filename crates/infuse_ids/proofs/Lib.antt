@@ -6,7 +6,6 @@ mod OwnClasses
 mod ShownTypes
 mod ObjectFields
 mod DescriptorTexts
-mod ClassOrders
 mod ClassBodies
 mod ObjectSizes
 mod LargeObjects

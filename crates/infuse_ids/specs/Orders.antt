@@ -12,10 +12,6 @@ use Rattle.body_form.specs.declared.body.Body.{Body}
 use Rattle.jvm_model.specs.declared.numbers.Selector.{Selector}
 use Rattle.jvm_model.specs.ImageNumbering.{class_order, IsClassOrder, is_selected, with_type, with_body, with_selector}
 
--- in a closed set each class of a file has one number, behind those of the files' classes that stand directly above it
-abbrev pub ClassOrderIsRight : Type 0
-ClassOrderIsRight = (files : List ClassFile) → Gathers files None → IsClassOrder files (class_order files)
-
 -- ---- bodies by their classes
 
 -- bodies stand in the order of their classes

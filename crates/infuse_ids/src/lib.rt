@@ -1,7 +1,8 @@
-//! The numbers of what the image of a set names: the classes and the selectors in their order, the types that bodies
-//! show, what statics hold before main starts, and the number of the selector of a call. The answer of calls is
-//! `selector_number`; that an object has the fields of its superclass's objects first is a law. This crate stands on
-//! `jvm_model`, `class_tree`, `class_code`, `body_form` and the kit's `indexmap`.
+//! The numbers of what the image of a set names: types, selectors, methods, the places of fields, and what statics hold
+//! before main starts. The main call is `number`, which refuses a set that has too many of one kind; what the numbers are
+//! is `numbering_of` of `jvm_model`, in specs/ImageNumbering.antt. `selector_number` answers the selector of a call, and
+//! that an object has the fields of its superclass's objects first is a law. This crate stands on `jvm_model`,
+//! `class_tree`, `class_order`, `class_code`, `body_form`, `body_make` for the set's entry, and the kit's `indexmap`.
 #![tactic(auto)]
 
 mod bodies;
@@ -24,6 +25,6 @@ mod values;
 mod writes;
 
 pub use descriptor::selector_number;
-pub use laws::{class_order_is_right, fields_come_from_superclasses};
+pub use laws::fields_come_from_superclasses;
 pub use numbering::number;
 pub use refusal::IdsRefusal;
