@@ -1,5 +1,5 @@
 -- Where the offset of a pc is among those of instructions, and how many bytes they have.
-use Rattle.std.proofs.Common.{◌≡◌, inl, inr, ℕ, zero, suc, ◌+◌, ◌<◌, ◌≤◌, Bool, true, false, nat_lt, cond, List, [], ◌∷◌, ◌++◌, length, get_or, drop, refl, sym, ap, ◌∙◌, append_assoc, length-append, arith}
+use Rattle.std.proofs.Common.{◌≡◌, inl, inr, ℕ, zero, suc, ◌+◌, ◌<◌, ◌≤◌, true, false, nat_lt, cond, List, [], ◌∷◌, ◌++◌, length, get_or, drop, refl, sym, ap, ◌∙◌, append_assoc, length-append, arith}
 use Rattle.std.specs.List.{flat_map, sum_by}
 use Rattle.std.proofs.lemmas.Bool.{cases_lt}
 use Rattle.std.proofs.lemmas.Bool.Decides.{nat_tests}
@@ -12,7 +12,7 @@ use Rattle.body_form.specs.declared.op.Op.{Op}
 use Rattle.body_form.specs.Flow.{Ops}
 use Rattle.jvm_model.specs.ImageEmission.{Source, bytes_at, size_at, size_below, fill_bytes, offset_of, code_of}
 use Rattle.expansion.proofs.ExpansionSizes.{size_is}
-use Rattle.expansion.proofs.SizesBelow.{below_none, below_first, below_later, offset_within}
+use Rattle.expansion.proofs.SizesBelow.{below_none, below_first, below_later}
 use Rattle.infuse_emit.specs.Offsets.{starts_below, offset_in, offsets_from}
 
 -- ---- how many pcs are below one

@@ -1,5 +1,5 @@
 -- What the code of a method is made of, and what is known of it.
-use Rattle.std.specs.Prelude.{◌≡◌, ℕ, ◌+◌, ◌<◌, ◌≤◌, Bool, true, if◌then◌else◌, List, map, length, get_or, slice_get, unwrap_or}
+use Rattle.std.specs.Prelude.{◌≡◌, ℕ, ◌+◌, ◌<◌, ◌≤◌, Bool, true, if◌then◌else◌, List, map, length, get_or}
 use Rattle.std.specs.List.{AllByRecursion, AllPairs}
 use Rattle.code_reach.specs.Reached.{RisesFrom}
 use Rattle.image_instr.specs.declared.insn.Width.{Width}

@@ -1,5 +1,5 @@
 -- Classes, methods and bodies in the order of their ids.
-use Rattle.std.specs.Prelude.{ℕ, Bool, nat_eq, List, [], map, filter, None}
+use Rattle.std.specs.Prelude.{ℕ, Bool, nat_eq, List, [], map, filter}
 use Rattle.std.specs.List.{fold, flat_map}
 use Rattle.std.specs.List.Sorted.{IsNonDecreasingBy}
 use Rattle.class_pool.specs.declared.types.MemberId.{MemberId}
@@ -7,10 +7,9 @@ use Rattle.class_pool.specs.declared.types.TypeRef.{TypeRef}
 use Rattle.class_file.specs.declared.record.ClassFile.{ClassFile}
 use Rattle.class_tree.specs.Members.{member_at, methods_of}
 use Rattle.class_tree.specs.Subtypes.{class_type}
-use Rattle.class_tree.specs.Tree.{Gathers}
 use Rattle.body_form.specs.declared.body.Body.{Body}
 use Rattle.jvm_model.specs.declared.numbers.Selector.{Selector}
-use Rattle.jvm_model.specs.ImageNumbering.{class_order, IsClassOrder, is_selected, with_type, with_body, with_selector}
+use Rattle.jvm_model.specs.ImageNumbering.{is_selected, with_type, with_body, with_selector}
 
 -- ---- bodies by their classes
 

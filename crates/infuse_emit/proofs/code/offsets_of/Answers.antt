@@ -1,7 +1,6 @@
-use Rattle.std.proofs.Common.{ℕ, ◌+◌, ◌≤◌, ◌<◌, ◌≡◌, length, refl, ap, ◌∙◌, arith}
+use Rattle.std.proofs.Common.{ℕ, ◌+◌, ◌≤◌, ◌<◌, length, refl, ap, ◌∙◌, arith}
 use Rattle.body_form.specs.declared.op.Op.{Op}
 use Rattle.body_form.specs.declared.op.Op.TheVariants as op
-use Rattle.jvm_model.specs.ImageEmission.{code_of}
 use Rattle.expansion.proofs.SizesBelow.{offset_within}
 use Rattle.infuse_emit.specs.Parts.{source_in}
 use Rattle.infuse_emit.proofs.OffsetLists.{written_more, written_all, total_more, end_is, told_by}

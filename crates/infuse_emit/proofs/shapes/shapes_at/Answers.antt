@@ -1,4 +1,4 @@
-use Rattle.std.proofs.Common.{◌≡◌, ◌-◌, ℕ, List, length, take, ap, ◌∙◌}
+use Rattle.std.proofs.Common.{◌≡◌, ◌-◌, List, length, take, ap, ◌∙◌}
 use Rattle.std.specs.Prelude.{true}
 use Rattle.jvm_model.specs.declared.entries.Entry.{Entry}
 use Rattle.jvm_model.specs.WidthsShapes.{types_at, width_where, is_narrow}
