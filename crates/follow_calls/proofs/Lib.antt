@@ -1,0 +1,2 @@
+-- a caller that goes on behind its call
+pub mod ResumedCallers
