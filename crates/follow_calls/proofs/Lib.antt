@@ -1,2 +1,6 @@
 -- a caller that goes on behind its call
 pub mod ResumedCallers
+-- what reads the result of a call
+pub mod CallResults
+-- a method that returns nothing
+pub mod ReturnedFrames
