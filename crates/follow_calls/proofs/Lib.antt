@@ -4,3 +4,5 @@ pub mod ResumedCallers
 pub mod CallResults
 -- a method that returns nothing
 pub mod ReturnedFrames
+-- the operands of a caller
+pub mod WaitingOperands
