@@ -2,7 +2,7 @@
 use Rattle.std.proofs.Common.{◌≡◌, ℕ, ◌+◌, List, [], ◌∷◌, ◌++◌, length, Option, Some, None, option_map, refl, sym, ap, subst, ◌∙◌, append-nil}
 use Rattle.std.specs.Option.{option_map_or}
 use Rattle.account.specs.Account.{Does, Stuck, no_need}
-use Rattle.account.specs.RunLaws.{Alike, BothDo, Quietly, ComesTo}
+use Rattle.account.specs.RunLaws.{Alike, BothDo, ComesTo}
 use Rattle.image_instr.specs.Insn.{insn_bytes}
 use Rattle.body_form.specs.declared.body.Body.{Body}
 use Rattle.body_form.specs.declared.op.Op.{Op}

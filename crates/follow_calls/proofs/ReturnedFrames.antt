@@ -13,7 +13,6 @@ use Rattle.body_form.specs.declared.op.MethodUse.{MethodUse}
 use Rattle.body_form.specs.declared.op.Op.{Op}
 use Rattle.body_form.specs.declared.op.Op.TheVariants as op
 use Rattle.body_form.specs.declared.types.VFrame.{VFrame}
-use Rattle.body_form.specs.declared.types.VType.{VType}
 use Rattle.jvm_model.specs.Bodies.{AreEach}
 use Rattle.jvm_model.specs.ImageExpansion.{Emitted, read_as, top_of}
 use Rattle.jvm_model.specs.TypesRules.{Change, op_at, plain, returned}
