@@ -6,3 +6,5 @@ pub mod CallResults
 pub mod ReturnedFrames
 -- the operands of a caller
 pub mod WaitingOperands
+-- a result that is a reference
+pub mod ReferenceResults
