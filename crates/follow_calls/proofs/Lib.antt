@@ -8,3 +8,5 @@ pub mod ReturnedFrames
 pub mod WaitingOperands
 -- a result that is a reference
 pub mod ReferenceResults
+-- references of statics at their places
+pub mod StaticPlaces
