@@ -1,0 +1,2 @@
+-- pcs that rise, and the rows of switches
+mod KeptRows

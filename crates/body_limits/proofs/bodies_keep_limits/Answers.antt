@@ -1,0 +1,8 @@
+use Rattle.body_limits.proofs.KeptRows.{pcs_rise, rows_are_kept}
+use Rattle.body_limits.proofs.bodies_keep_limits.Goals as goal
+
+pub returns-clause-rise : goal.returns-clause-rise
+returns-clause-rise c = pcs_rise c.typed_code_is_safe.ensures.facts
+
+pub returns-clause-rows : goal.returns-clause-rows
+returns-clause-rows c = rows_are_kept c.typed_code_is_safe.ensures.facts

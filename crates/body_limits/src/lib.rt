@@ -1,0 +1,16 @@
+//! What the bodies of a set keep to, where the phases of the set up to that of types have no refusal: their pcs rise, and
+//! the rows of their switches are as machine instructions ask. The definitions are in specs/. This crate has no code of
+//! its own. It stands on `type_safety`, `match_code`, `expansion` and `jvm_model`.
+#![tactic(auto)]
+
+ghost use Rattle.body_limits.specs.Limits.{PcsRise, RowsAreKept};
+
+use type_safety::typed_code_is_safe;
+
+/// The bodies of a set that its phases accept keep to these limits.
+pub fn bodies_keep_limits()
+    ensures rise { PcsRise }
+    ensures rows { RowsAreKept }
+{
+    typed_code_is_safe();
+}
