@@ -11,8 +11,9 @@ use Rattle.mote_model.specs.Picture.{Naming, Pictures}
 use Rattle.split_safety.specs.Reached.{IsReached}
 use Rattle.split_safety.specs.Safety.{IsSound}
 
--- the state of the split machine, where the objects stand, and how many cells the stack has
+-- an image, a state of its run, where the objects stand, and how many cells the stack has
 pub record Shown : Type 0 where
+  pub image : Image
   pub state : State
   pub naming : Naming
   pub size : ℕ
@@ -28,8 +29,8 @@ pub record IsNext (image : Image) (state : State) (insn : MInsn) : Type 0 where
   pub there : insn_at (drop frame.pc method.code) ≡ Some (insn, size)
 
 -- the memory stands for a state that runs of the image come to, and the instruction is the next one
-pub record IsReady (image : Image) (shown : Shown) (memory : Memory) (insn : MInsn) : Type 0 where
-  pub sound : IsSound image
-  pub reached : IsReached image shown.state
-  pub pictures : Pictures image shown.naming shown.size memory shown.state
-  pub next : IsNext image shown.state insn
+pub record IsReady (shown : Shown) (memory : Memory) (insn : MInsn) : Type 0 where
+  pub sound : IsSound shown.image
+  pub reached : IsReached shown.image shown.state
+  pub pictures : Pictures shown.image shown.naming shown.size memory shown.state
+  pub next : IsNext shown.image shown.state insn

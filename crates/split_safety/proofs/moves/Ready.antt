@@ -33,5 +33,5 @@ next_at image sound state reached insn next =
     subst (λ size. IsAt image state next.frame next.others next.method insn size) same.1
     (subst (λ (insn : MInsn). IsAt image state next.frame next.others next.method insn there.size) same.0 moved)
 
-pub ready_at : (image : Image) (shown : Shown) (memory : Memory) (insn : MInsn) (ready : IsReady image shown memory insn) → IsAt image shown.state ready.next.frame ready.next.others ready.next.method insn ready.next.size
-ready_at image shown memory insn ready = next_at image ready.sound shown.state ready.reached insn ready.next
+pub ready_at : (shown : Shown) (memory : Memory) (insn : MInsn) (ready : IsReady shown memory insn) → IsAt shown.image shown.state ready.next.frame ready.next.others ready.next.method insn ready.next.size
+ready_at shown memory insn ready = next_at shown.image ready.sound shown.state ready.reached insn ready.next

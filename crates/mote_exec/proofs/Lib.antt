@@ -1,0 +1,10 @@
+-- halves of frames as lists, locals first and the top last
+pub mod HalfLists
+-- a step that goes on
+pub mod GoingOn
+-- widths of numbers
+pub mod Widths
+-- what is taken off the top
+pub mod Taking
+-- a step that jumps
+pub mod Jumping

@@ -1,0 +1,14 @@
+//! Parts of a plain step of the mote machine, over the memory of a mote: constants, arithmetic and jumps on whole numbers.
+//! What each answers is said by the move of the split machine (`mote_model`, in specs/Turns.antt), and what is asked
+//! before it stands in specs/Steps.antt. The program does not use them yet. This crate stands on `mote_model`,
+//! `mote_stack`, `split_safety`, `image_instr` and `cell_num`.
+#![tactic(auto)]
+
+mod constants;
+mod halves;
+mod jumps;
+mod numbers;
+
+pub use constants::constant;
+pub use jumps::{goto, jump_if_compared, jump_if_zero};
+pub use numbers::{binary, negate};
