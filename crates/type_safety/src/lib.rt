@@ -6,6 +6,7 @@
 
 ghost use Rattle.type_safety.specs.Parts.{AreParts};
 ghost use Rattle.type_safety.specs.Safety.{FactsKeepSafe, PhasesGiveFacts, TypedCodeIsSafe};
+ghost use Rattle.type_safety.specs.Starts.{StartsFit};
 
 /// From a state of typed code that fits its types the typed machine goes on for ever or stops, and is never stuck. It is
 /// so since the phases of a set give facts, as that what an instruction names is there and of the type that it says; and
@@ -15,4 +16,10 @@ pub fn typed_code_is_safe()
     ensures facts { PhasesGiveFacts }
     ensures moves { FactsKeepSafe }
     ensures parts { AreParts }
+{}
+
+/// The state in which a run of such a set starts fits its types: main has a body and takes nothing, and each static holds
+/// a value that fits its field.
+pub fn typed_code_starts()
+    ensures { StartsFit }
 {}
