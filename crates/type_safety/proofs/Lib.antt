@@ -8,3 +8,5 @@ mod moves
 pub mod SafeMoves
 -- moves from a state that fits lead to states that fit
 mod SafeRuns
+-- where runs start
+mod starts

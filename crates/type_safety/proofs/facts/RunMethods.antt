@@ -194,7 +194,8 @@ pub record IsCalled (files : List ClassFile) (id : MemberId) (used : MethodUse) 
   pub static : is_static declaration.flags ≡ not on_object
 
 module _ (world : World) (read : AllByRecursion IsRead world.files) (are : AreBodies world.files world.bodies) where
-  runs_body : (id : MemberId) (used : MethodUse) (on_object : Bool) (called : IsCalled world.files id used on_object) → 32 ≤ id.class → has_code world.files id ≡ true → RunsBody world id used on_object
+  -- a method of the set's own classes with code runs a body
+  pub runs_body : (id : MemberId) (used : MethodUse) (on_object : Bool) (called : IsCalled world.files id used on_object) → 32 ≤ id.class → has_code world.files id ≡ true → RunsBody world id used on_object
   runs_body id used on_object called own has =
       let stands = method_of_file world.files id.class id.member called.declaration own called.there in
       let code = code_there world.files read id called.declaration own stands has in
