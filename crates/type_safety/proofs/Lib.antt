@@ -1,7 +1,7 @@
 -- what fits, and goes on to fit
-mod fitting
+pub mod fitting
 -- what the phases of a set give
-mod facts
+pub mod facts
 -- moves, family by family
 mod moves
 -- from a state that fits there is a move, and the next state fits
@@ -9,4 +9,4 @@ pub mod SafeMoves
 -- moves from a state that fits lead to states that fit
 mod SafeRuns
 -- where runs start
-mod starts
+pub mod starts
