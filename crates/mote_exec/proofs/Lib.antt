@@ -8,3 +8,5 @@ pub mod Widths
 pub mod Taking
 -- a step that jumps
 pub mod Jumping
+-- the cell on top
+pub mod TopCells

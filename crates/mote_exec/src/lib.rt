@@ -8,7 +8,9 @@ mod constants;
 mod halves;
 mod jumps;
 mod numbers;
+mod small;
 
 pub use constants::constant;
 pub use jumps::{goto, jump_if_compared, jump_if_zero};
 pub use numbers::{binary, negate};
+pub use small::{extend_byte, extend_sign, extend_zero, keep_bit};
