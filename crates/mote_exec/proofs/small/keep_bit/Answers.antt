@@ -1,15 +1,9 @@
-use Rattle.std.proofs.Common.{◌≡◌, ◌≤◌, ◌+◌, ◌%◌, [], ◌∷◌, ◌++◌, ℤ, pos, ℕ, FitsSigned, to_z, of_z, rules, refl, sym, ap, subst, ◌∙◌, arith, length}
-use Rattle.std.specs.Int.{w32}
-use Rattle.std.proofs.lemmas.Int.{to_z-of_z}
+use Rattle.std.proofs.Common.{◌≤◌, ◌%◌, [], ◌∷◌, ◌++◌, ℕ, ap, ◌∙◌, arith, length}
 use Rattle.image_instr.specs.declared.insn.MInsn.TheVariants as insns
-use Rattle.image_instr.specs.declared.insn.Width.TheVariants as width
-use Rattle.cell_num.specs.declared.conversions.Conv.TheVariants as conv
-use Rattle.cell_num.specs.Cells.{sign_extended}
-use Rattle.cell_num.specs.Conversions.{converted}
 use Rattle.mote_stack.specs.Frames.{youngest_frame, without_last}
-use Rattle.mote_model.specs.SplitMoves.{cells_of, goes_on, push_cells}
+use Rattle.mote_model.specs.SplitMoves.{goes_on, push_cells}
 use Rattle.mote_exec.specs.Steps.{stepped, with_stack}
-use Rattle.mote_exec.proofs.GoingOn.{at, cells_counted, gives, gives_number, room}
+use Rattle.mote_exec.proofs.GoingOn.{at, cells_counted, gives, room}
 use Rattle.mote_exec.proofs.Taking.{takes_cell, top_of}
 use Rattle.mote_exec.proofs.TopCells.{top_is}
 use Rattle.mote_exec.proofs.small.keep_bit.Goals as goal
