@@ -4,6 +4,7 @@ use Rattle.std.specs.Int.{w32}
 use Rattle.std.specs.List.{AllByRecursion}
 use Rattle.class_pool.specs.declared.descriptor.Kind.{Kind}
 use Rattle.class_pool.specs.declared.types.MemberId.{MemberId}
+use Rattle.class_pool.specs.declared.types.TypeBase.{TypeBase}
 use Rattle.class_pool.specs.declared.types.TypeRef.{TypeRef}
 use Rattle.class_file.specs.Rules.{is_abstract, is_interface, is_static}
 use Rattle.class_file.specs.declared.record.ClassFile.{ClassFile}
@@ -19,10 +20,12 @@ use Rattle.body_form.specs.declared.types.VFrame.{VFrame}
 use Rattle.body_form.specs.declared.types.VType.{VType}
 use Rattle.body_form.specs.declared.types.VType.TheVariants as known
 use Rattle.jvm_model.specs.Bodies.{AreEach}
+use Rattle.jvm_model.specs.InitialStatics.{narrowed}
 use Rattle.jvm_model.specs.State.{Value, Whole, Null, Name}
 use Rattle.jvm_model.specs.TypesFrames.{value_of, value_of_kind}
 use Rattle.jvm_model.specs.TypesRight.{Table}
 use Rattle.jvm_model.specs.TypesRules.{Change, makes_class, op_at, change_of, changed, component_of}
+use Rattle.typed_machine.specs.TypedArrays.{kept_by_base}
 use Rattle.typed_machine.specs.TypedState.{Fields, Object, Instance, Elements, Frame, State}
 use Rattle.typed_machine.specs.TypedWorld.{World, body_among, type_of, kind_of, instance_field}
 
@@ -82,21 +85,32 @@ pub record KindFits (world : World) (objects : List Object) (kind : Kind) (value
   pub is : value_of_kind world.files kind ≡ Some type
   pub has : (body : Body) → ValueFits world objects body value type
 
--- a field is there, with a value that fits its declared type
+-- a number is one that fields of a type keep: a write of it leaves it as it is
+abbrev pub IsKept : Kind → Value → Type 0
+IsKept kind value = (number : ℤ) → value ≡ Whole number → narrowed kind number ≡ number
+
+-- a number is one that elements of arrays with a base keep
+abbrev pub IsKeptElement : TypeBase → Value → Type 0
+IsKeptElement base value = (number : ℤ) → value ≡ Whole number → kept_by_base base number ≡ number
+
+-- a field is there, with a value that fits its declared type and that the type keeps
 pub record FieldFits (world : World) (objects : List Object) (fields : Fields) (id : MemberId) (field : Declaration) : Type 0 where
   pub value : Value
   pub is : fields id ≡ Some value
   pub has : KindFits world objects (kind_of field) value
+  pub kept : IsKept (kind_of field) value
 
 -- ---- objects and statics
 
 -- An object's class is neither abstract nor an interface, and it has the fields of its class and superclasses. Each
--- element of an array fits its component, and its length has 32 bits.
+-- element of an array fits its component, its length has 32 bits, and its base keeps each number in it.
 abbrev pub ObjectFits : World → List Object → Object → Type 0
 ObjectFits world objects (Instance class fields) =
     IsClass world.files class × (is_interface (flags_of world.files class) ≡ false) × (is_abstract (flags_of world.files class) ≡ false)
     × ((id : MemberId) (field : Declaration) → instance_field world.files class id ≡ Some field → FieldFits world objects fields id field)
-ObjectFits world objects (Elements array elements) = IsType world.files array × (1 ≤ array.dims) × AllByRecursion (TypeFits world objects (component_of array)) elements × FitsSigned w32 (pos (length elements))
+ObjectFits world objects (Elements array elements) =
+    IsType world.files array × (1 ≤ array.dims) × AllByRecursion (TypeFits world objects (component_of array)) elements × FitsSigned w32 (pos (length elements))
+    × AllByRecursion (IsKeptElement array.base) elements
 
 -- the static field of a member
 abbrev pub static_field : List ClassFile → MemberId → Option Declaration

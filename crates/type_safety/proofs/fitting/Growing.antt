@@ -138,9 +138,9 @@ module _ (world : World) (tables : Tables) (old new : List Object) (grown : Grow
     fit.0,
     fit.1,
     fit.2,
-    λ id field is. let had = fit.3 id field is in record { value = had.value; is = had.is; has = (growing_fits world tables old new grown).kind _ had.value had.has },
+    λ id field is. let had = fit.3 id field is in record { value = had.value; is = had.is; has = (growing_fits world tables old new grown).kind _ had.value had.has; kept = had.kept },
   )
-  object_stays (Elements array elements) fit = (fit.0, fit.1, all_stay _ elements fit.2, fit.3)
+  object_stays (Elements array elements) fit = (fit.0, fit.1, all_stay _ elements fit.2, fit.3, fit.4)
 
   pub objects_stay : (objects : List Object) → AllByRecursion (ObjectFits world old) objects → AllByRecursion (ObjectFits world new) objects
   objects_stay [] all = tt
@@ -148,4 +148,4 @@ module _ (world : World) (tables : Tables) (old new : List Object) (grown : Grow
 
   pub statics_stay : (statics : Fields) → StaticsFit world old statics → StaticsFit world new statics
   statics_stay statics fit id field is =
-      let had = fit id field is in record { value = had.value; is = had.is; has = (growing_fits world tables old new grown).kind _ had.value had.has }
+      let had = fit id field is in record { value = had.value; is = had.is; has = (growing_fits world tables old new grown).kind _ had.value had.has; kept = had.kept }

@@ -72,12 +72,12 @@ next_name (first ∷ objects) more object = next_name objects more object
 
 module _ (world : World) (tables : Tables) (old new : List Object) (grows : GrownFits world tables old new) where
   field_grows : (fields : Fields) (id : MemberId) (field : Declaration) → FieldFits world old fields id field → FieldFits world new fields id field
-  field_grows fields id field has = record { value = has.value; is = has.is; has = grows.kind (kind_of field) has.value has.has }
+  field_grows fields id field has = record { value = has.value; is = has.is; has = grows.kind (kind_of field) has.value has.has; kept = has.kept }
 
   pub object_grows : (object : Object) → ObjectFits world old object → ObjectFits world new object
   object_grows (Instance class fields) has = (has.0, has.1, has.2, λ id field is. field_grows fields id field (has.3 id field is))
   object_grows (Elements array elements) has =
-      (has.0, has.1, all_map (TypeFits world old (component_of array)) (TypeFits world new (component_of array)) (grows.element (component_of array)) elements has.2, has.3)
+      (has.0, has.1, all_map (TypeFits world old (component_of array)) (TypeFits world new (component_of array)) (grows.element (component_of array)) elements has.2, has.3, has.4)
 
   pub objects_grow : (objects : List Object) → AllByRecursion (ObjectFits world old) objects → AllByRecursion (ObjectFits world new) objects
   objects_grow objects all = all_map (ObjectFits world old) (ObjectFits world new) object_grows objects all

@@ -23,7 +23,7 @@ use Rattle.jvm_model.specs.TypesFrames.{is_int, value_of, value_in, fits_in, fit
 use Rattle.typed_machine.specs.TypedCalls.{kept_as}
 use Rattle.typed_machine.specs.TypedState.{Fields, Object, Instance, Elements, is_member, with_field}
 use Rattle.typed_machine.specs.TypedWorld.{World, type_of, kind_of}
-use Rattle.type_safety.specs.Fitting.{Tables, IsWhole, NamesObject, ValueFits, KindFits, FieldFits, ObjectFits}
+use Rattle.type_safety.specs.Fitting.{Tables, IsWhole, IsKept, NamesObject, ValueFits, KindFits, FieldFits, ObjectFits}
 use Rattle.type_safety.specs.Parts.{GrownFits}
 use Rattle.type_safety.proofs.fitting.FitsOver.{fits_over}
 use Rattle.type_safety.proofs.fitting.GrownObjects.{all_at}
@@ -101,18 +101,19 @@ same_field : (a b : Declaration) → Some a ≡ Some b → a ≡ b
 same_field a b e = cc
 
 module _ (world : World) (objects : List Object) (find : MemberId → Option Declaration) (fields : Fields) (id : MemberId) (value : Value) (declared : Declaration) where
-  set_at : find id ≡ Some declared → KindFits world objects (kind_of declared) value → (other : MemberId) (field : Declaration) → find other ≡ Some field → FieldFits world objects fields other field
+  set_at : find id ≡ Some declared → KindFits world objects (kind_of declared) value → IsKept (kind_of declared) value → (other : MemberId) (field : Declaration) → find other ≡ Some field → FieldFits world objects fields other field
       → (same : Bool) → is_member id other ≡ same → FieldFits world objects (with_field fields id value) other field
-  set_at is has other field found old true e =
+  set_at is has kept other field found old true e =
       let one : declared ≡ field = same_field declared field (sym is ∙ ap find (same_member id other e) ∙ found) in
       record {
         value = value;
         is = ap (λ (b : Bool). if b then Some value else fields other) e;
         has = subst (λ f. KindFits world objects (kind_of f) value) one has;
+        kept = subst (λ f. IsKept (kind_of f) value) one kept;
       }
-  set_at is has other field found old false e = record { value = old.value; is = ap (λ (b : Bool). if b then Some value else fields other) e ∙ old.is; has = old.has }
+  set_at is has kept other field found old false e = record { value = old.value; is = ap (λ (b : Bool). if b then Some value else fields other) e ∙ old.is; has = old.has; kept = old.kept }
 
-  pub fields_set : find id ≡ Some declared → KindFits world objects (kind_of declared) value
+  pub fields_set : find id ≡ Some declared → KindFits world objects (kind_of declared) value → IsKept (kind_of declared) value
       → ((other : MemberId) (field : Declaration) → find other ≡ Some field → FieldFits world objects fields other field)
       → (other : MemberId) (field : Declaration) → find other ≡ Some field → FieldFits world objects (with_field fields id value) other field
-  fields_set is has each other field found = set_at is has other field found (each other field found) (is_member id other) refl
+  fields_set is has kept each other field found = set_at is has kept other field found (each other field found) (is_member id other) refl

@@ -33,7 +33,7 @@ use Rattle.jvm_model.specs.State.{Null}
 use Rattle.jvm_model.specs.TypesFrames.{value_in, value_of_kind}
 use Rattle.typed_machine.specs.TypedState.{Object}
 use Rattle.typed_machine.specs.TypedWorld.{World, kind_of, default_of_kind, new_object}
-use Rattle.type_safety.proofs.fitting.Numbers.{small_fits}
+use Rattle.type_safety.proofs.fitting.Numbers.{small_fits, default_kept}
 use Rattle.type_safety.specs.Facts.{IsConcrete}
 use Rattle.type_safety.specs.Fitting.{KindFits, ObjectFits}
 
@@ -189,5 +189,5 @@ new_object_fits world gathers objects class concrete = (
   λ id field is.
       let declared = found_field world.files (is_class_or_super world.files class id.class) (slice_get (fields_of world.files id.class) id.member) field is in
       let named = field_of_names world.files gathers id.class id.member field declared in
-      record { value = default_of_kind (kind_of field); is = ap (option_map (λ (f : Declaration). default_of_kind (kind_of f))) is; has = default_fits world objects (kind_of field) named },
+      record { value = default_of_kind (kind_of field); is = ap (option_map (λ (f : Declaration). default_of_kind (kind_of f))) is; has = default_fits world objects (kind_of field) named; kept = default_kept (kind_of field) },
 )

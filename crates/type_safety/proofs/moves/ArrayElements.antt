@@ -25,11 +25,11 @@ use Rattle.jvm_model.specs.TypesRules.{is_constructed, component_of, is_element,
 use Rattle.typed_machine.specs.TypedArrays.{kept_by_base, kept_in, new_array, may_be_stored}
 use Rattle.typed_machine.specs.TypedState.{Object, Instance, Elements, State}
 use Rattle.typed_machine.specs.TypedWorld.{World, type_of, is_below, default_of_type}
-use Rattle.type_safety.specs.Fitting.{IsWhole, NamesObject, ValueFits, TypeFits, ObjectFits}
+use Rattle.type_safety.specs.Fitting.{IsWhole, IsKeptElement, NamesObject, ValueFits, TypeFits, ObjectFits}
 use Rattle.type_safety.proofs.fitting.BelowFits.{below_fits}
 use Rattle.type_safety.proofs.fitting.GrownObjects.{all_at}
 use Rattle.type_safety.proofs.fitting.HeldValues.{object_type, reference_fits}
-use Rattle.type_safety.proofs.fitting.Numbers.{small_fits, element_fits}
+use Rattle.type_safety.proofs.fitting.Numbers.{small_fits, element_fits, default_element_kept}
 
 -- ---- new arrays
 
@@ -52,6 +52,7 @@ new_array_fits world objects array count counted known some = (
   some,
   all_replicate (TypeFits world objects (component_of array)) (default_of_type (component_of array)) (default_fits world objects (component_of array)) count,
   subst (λ (n : ℕ). FitsSigned w32 (pos n)) (sym (length-replicate count (default_of_type (component_of array)))) counted,
+  all_replicate (IsKeptElement array.base) (default_of_type (component_of array)) (default_element_kept array.base (component_of array)) count,
 )
 
 -- ---- arrays of a type

@@ -25,13 +25,13 @@ use Rattle.typed_machine.specs.TypedArrays.{is_negative, count_of, new_array, ma
 use Rattle.typed_machine.specs.TypedMoves.{goes_on, makes, no_need, place_need, throws, negative_array_size_exception, array_index_out_of_bounds_exception, array_store_exception}
 use Rattle.typed_machine.specs.TypedState.{Object, Elements, Frame, State, with_objects}
 use Rattle.typed_machine.specs.TypedWorld.{World, array_cells, pc_after}
-use Rattle.type_safety.specs.Fitting.{Tables, IsWhole, NamesObject, ValueFits, TypeFits, ObjectFits}
+use Rattle.type_safety.specs.Fitting.{Tables, IsWhole, IsKeptElement, NamesObject, ValueFits, TypeFits, ObjectFits}
 use Rattle.type_safety.specs.Safety.{MoveFits}
 use Rattle.type_safety.proofs.moves.Lemmas.{MoveLemma}
 use Rattle.type_safety.proofs.fitting.BelowFits.{fits_itself}
 use Rattle.type_safety.proofs.fitting.GrownObjects.{all_at, all_set, next_name}
 use Rattle.type_safety.proofs.fitting.HeldValues.{each_grows}
-use Rattle.type_safety.proofs.fitting.Numbers.{count_fits}
+use Rattle.type_safety.proofs.fitting.Numbers.{count_fits, element_is_kept}
 use Rattle.type_safety.proofs.moves.ArrayElements.{IsArrayOf, array_named, has_dims_of, are_references, read_as, read_fits, new_array_fits, stored_fits}
 use Rattle.type_safety.proofs.moves.NextStates.{At, Follows, plain_gives, names_known, rule, plain_rule, Goes, goes_by, steady, grows, append_follows, set_follows, bounds_fits, throws_fit, exception_thrown, object_fits, object_at_fits}
 
@@ -237,6 +237,7 @@ module _ {world : World} {tables : Tables} {state : State} {frame : Frame} {othe
         old.1,
         all_set (TypeFits world objects (component_of array)) elements place (kept_in array value) (grow.element (component_of array) (kept_in array value) kept) old.2,
         subst (λ (n : ℕ). FitsSigned w32 (pos n)) (sym (length-set elements place (kept_in array value))) old.3,
+        all_set (IsKeptElement array.base) elements place (kept_in array value) (element_is_kept array value) old.4,
       ))
 
   stored_or_thrown : (operands : List Value) (value : Value) (name : ℕ) (array : TypeRef) (elements : List Value) (place : ℕ) (may : Bool)

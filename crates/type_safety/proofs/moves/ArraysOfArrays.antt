@@ -25,7 +25,7 @@ use Rattle.typed_machine.specs.TypedArrays.{count_of, array_count, cells_of, arr
 use Rattle.typed_machine.specs.TypedMoves.{does_next, place_need, throws, negative_array_size_exception}
 use Rattle.typed_machine.specs.TypedState.{Object, Elements, Frame, State, with_objects}
 use Rattle.typed_machine.specs.TypedWorld.{World, pc_after}
-use Rattle.type_safety.specs.Fitting.{Tables, ValueFits, TypeFits, ObjectFits}
+use Rattle.type_safety.specs.Fitting.{Tables, IsKeptElement, ValueFits, TypeFits, ObjectFits}
 use Rattle.type_safety.specs.Safety.{MoveFits}
 use Rattle.type_safety.proofs.moves.Lemmas.{MoveLemma}
 use Rattle.type_safety.proofs.fitting.BelowFits.{fits_itself}
@@ -96,6 +96,14 @@ component_refers zero of some = absurd (omega (arith, some))
 component_refers (suc zero) of some = absurd (omega (arith, some))
 component_refers (suc (suc dims)) of some = let less : suc (suc dims) - 1 ≡ suc dims = omega arith in subst (λ n. is_reference n of ≡ true) (sym less) refl
 
+-- names are no numbers
+no_number : (base : TypeBase) (name : ℕ) → IsKeptElement base (Name name)
+no_number base name number is = cc
+
+names_kept : (base : TypeBase) (name_of : ℕ → ℕ) (parts : List ℕ) → AllByRecursion (IsKeptElement base) (map (λ part. Name (name_of part)) parts)
+names_kept base name_of [] = tt
+names_kept base name_of (part ∷ parts) = (no_number base (name_of part), names_kept base name_of parts)
+
 module _ (world : World) (gathers : Gathers world.files None) (all : List Object) where
   -- an outer array of some arrays that have their names
   outer_named : (array : TypeRef) (counts : List ℕ) (name : ℕ) → IsType world.files array → 1 ≤ length counts → IsPlaced all name (arrays_of array counts name) → (body : Body)
@@ -164,6 +172,7 @@ module _ (world : World) (gathers : Gathers world.files None) (all : List Object
           omega (arith, few),
           names_fit component known_component refers inner some (name + 1) each count 0 parts_placed,
           subst CountFits (sym (length-map (range_with_len 0 count) (λ p. Name (name + 1 + p * array_count inner)) ∙ length-range_with_len 0 count)) counted.0,
+          names_kept array.base (λ p. name + 1 + p * array_count inner) (range_with_len 0 count),
         ),
         parts_fit component known_component refers inner some (name + 1) each count 0 parts_placed,
       )

@@ -25,7 +25,8 @@ use Rattle.typed_machine.specs.TypedState.{Fields, Object, Instance, Elements, F
 use Rattle.typed_machine.specs.TypedStep.{read_static, write_static, read_of, read_field, write_to, write_field}
 use Rattle.typed_machine.specs.TypedWorld.{World, type_of, pc_after, instance_field}
 use Rattle.type_safety.specs.Facts.{ClassFits, IsStaticField, HasField, IsInstanceField}
-use Rattle.type_safety.specs.Fitting.{Tables, NamesObject, IsInstance, ValueFits, KindFits, ObjectFits, static_field}
+use Rattle.type_safety.specs.Fitting.{Tables, IsKept, NamesObject, IsInstance, ValueFits, KindFits, ObjectFits, static_field}
+use Rattle.type_safety.proofs.fitting.Numbers.{kept_is_kept}
 use Rattle.type_safety.specs.Safety.{MoveFits}
 use Rattle.type_safety.proofs.moves.Lemmas.{MoveLemma}
 use Rattle.type_safety.proofs.fitting.GrownObjects.{grown_itself}
@@ -68,13 +69,13 @@ module _ {world : World} {tables : Tables} {state : State} {frame : Frame} {othe
 
 module _ {world : World} {tables : Tables} {state : State} {frame : Frame} {others : List Frame} {body : Body} {types after : VFrame} (used : FieldUse)
     (at : At world tables state frame others body (op.PutStatic used) types after) where
-  static_set : IsStaticField world used → (value : Value) → KindFits world state.objects used.kind value → Follows world tables state (with_static state used.field value)
-  static_set named_field value has =
+  static_set : IsStaticField world used → (value : Value) → KindFits world state.objects used.kind value → IsKept used.kind value → Follows world tables state (with_static state used.field value)
+  static_set named_field value has kept =
       record {
         grown = grown_itself state.objects;
         objects = at.fits.objects;
         statics = fields_set world state.objects (static_field world.files) state.statics used.field value named_field.field named_field.is
-            (subst (λ k. KindFits world state.objects k value) (sym named_field.kind) has) at.fits.statics;
+            (subst (λ k. KindFits world state.objects k value) (sym named_field.kind) has) (subst (λ k. IsKept k value) (sym named_field.kind) kept) at.fits.statics;
       }
 
   static_write : IsStaticField world used → (operands : List Value) (stack : List VType) → AreEach (ValueFits world state.objects body) operands stack → AllByRecursion (IsKnown world.files) stack
@@ -91,7 +92,7 @@ module _ {world : World} {tables : Tables} {state : State} {frame : Frame} {othe
       let held = at.fits.statics used.field named_field.field named_field.is in
       let next = with_static state used.field kept in
       subst (λ found. MoveFits world tables (option_map_or (λ (old : Value). goes_on next frame others (pc_after body.ops frame.pc) operands) found Stuck)) (sym held.is)
-      (goes no_need [] next operands (static_set named_field kept has) fit.1)
+      (goes no_need [] next operands (static_set named_field kept has (kept_is_kept used.kind value)) fit.1)
 
 pub get_static_fits : (used : FieldUse) → MoveLemma (op.GetStatic used)
 get_static_fits used parts world tables set state frame others frames fits body types after stands has =
@@ -158,14 +159,15 @@ module _ {world : World} {tables : Tables} {state : State} {frame : Frame} {othe
 
   -- the state with the field set
   field_set : (class : ℕ) (fields : Fields) (name : ℕ) → slice_get state.objects name ≡ Some (Instance class fields) → HasField world class used → (value : Value)
-      → KindFits world state.objects used.kind value → Follows world tables state (with_object state name (Instance class (with_field fields used.field value)))
-  field_set class fields name there has value kept =
+      → KindFits world state.objects used.kind value → IsKept used.kind value → Follows world tables state (with_object state name (Instance class (with_field fields used.field value)))
+  field_set class fields name there has value fit kept =
       set_follows at name (Instance class fields) (Instance class (with_field fields used.field value)) there refl
       (λ objects grows old. (
         old.0,
         old.1,
         old.2,
-        fields_set world objects (instance_field world.files class) fields used.field value has.field has.is (subst (λ k. KindFits world objects k value) (sym has.kind) (grows.kind used.kind value kept)) old.3,
+        fields_set world objects (instance_field world.files class) fields used.field value has.field has.is (subst (λ k. KindFits world objects k value) (sym has.kind) (grows.kind used.kind value fit))
+            (subst (λ k. IsKept k value) (sym has.kind) kept) old.3,
       ))
 
   object_write : (value : Value) → KindFits world state.objects used.kind (kept_as used.kind value) → (operands : List Value) (stack : List VType) → AreEach (ValueFits world state.objects body) operands stack
@@ -177,7 +179,7 @@ module _ {world : World} {tables : Tables} {state : State} {frame : Frame} {othe
       let of = object_at_fits at name (Instance holds.class holds.fields) here in
       let held = of.3 used.field holds.has.field holds.has.is in
       let next = with_object state name (Instance holds.class (with_field holds.fields used.field (kept_as used.kind value))) in
-      let follows : Follows world tables state next = field_set holds.class holds.fields name here holds.has (kept_as used.kind value) kept in
+      let follows : Follows world tables state next = field_set holds.class holds.fields name here holds.has (kept_as used.kind value) kept (kept_is_kept used.kind value) in
       let grows = at.parts.growing world tables state.objects next.objects follows.grown in
       subst (λ o. MoveFits world tables (write_to state frame others (pc_after body.ops frame.pc) used value operands name o)) (sym holds.is)
       (subst (λ found. MoveFits world tables (option_map_or (λ (old : Value). goes_on next frame others (pc_after body.ops frame.pc) operands) found Stuck)) (sym held.is)

@@ -26,7 +26,7 @@ use Rattle.typed_machine.specs.TypedWorld.{World, kind_of, type_of, default_of_k
 use Rattle.type_safety.specs.Facts.{IsConcrete}
 use Rattle.type_safety.specs.Fitting.{Tables, IsWhole, NamesObject, ValueFits, LocalFits, FrameFits, ObjectFits}
 use Rattle.type_safety.specs.Safety.{MoveFits}
-use Rattle.type_safety.proofs.fitting.Numbers.{small_fits}
+use Rattle.type_safety.proofs.fitting.Numbers.{small_fits, default_kept}
 use Rattle.type_safety.proofs.moves.Lemmas.{MoveLemma}
 use Rattle.type_safety.proofs.facts.FieldKinds.{kind_default, field_declared}
 use Rattle.type_safety.proofs.fitting.BelowFits.{below_fits}
@@ -58,6 +58,7 @@ new_object_fits world gathers objects class concrete = (
         value = default_of_kind (kind_of field);
         is = ap (option_map (λ (f : Declaration). default_of_kind (kind_of f))) is;
         has = kind_default world objects (kind_of field) (field_declared world.files gathers id.class id.member field there);
+        kept = default_kept (kind_of field);
       },
 )
 
