@@ -23,18 +23,18 @@ use Rattle.class_code.proofs.Numbers.{HasNumbers}
 use Rattle.class_tree.specs.Members.{Declaration, fields_of, in_file, is_called, member_at}
 use Rattle.class_tree.specs.Tree.{Gathers}
 use Rattle.body_form.specs.declared.types.VType.TheVariants as known
-use Rattle.jvm_model.specs.Initialisers.{Pushed, Number, Null as PushedNull, is_plain_return, pushed_by}
+use Rattle.jvm_model.specs.Initialisers.{Pushed, Number, Null as PushedNull, is_plain_return, is_whole_kind, pushed_by}
 use Rattle.jvm_model.specs.InitialStatics.{kind_of as member_kind, kept, written_by, writes_from, writes_in, writes_of, last_write, constant_of, set_last, initial_value, narrowed, static_at, statics_in, statics_from}
 use Rattle.jvm_model.specs.Linking.{is_initialiser}
 use Rattle.jvm_model.specs.ProgramOf.{insns_in}
 use Rattle.jvm_model.specs.Resolution.{field_name_at}
-use Rattle.jvm_model.specs.State.{Value}
+use Rattle.jvm_model.specs.State.{Value, Whole, Null}
 use Rattle.typed_machine.specs.TypedRun.{statics_of}
 use Rattle.typed_machine.specs.TypedState.{Object, is_member}
 use Rattle.typed_machine.specs.TypedWorld.{World, kind_of}
-use Rattle.type_safety.specs.Fitting.{KindFits, StaticsFit}
+use Rattle.type_safety.specs.Fitting.{IsKept, KindFits, StaticsFit}
 use Rattle.type_safety.proofs.fitting.NewObject.{IsOfNames, field_of_names, default_fits}
-use Rattle.type_safety.proofs.fitting.Numbers.{narrowed_fits}
+use Rattle.type_safety.proofs.fitting.Numbers.{narrowed_fits, default_kept, kept_is_kept}
 use Rattle.type_safety.proofs.fitting.SetLists.{none_some, same_some, all_at, all_joined}
 use Rattle.type_safety.proofs.facts.CodeRead.{IsRead, FitsMethod, FitsCode}
 use Rattle.type_safety.proofs.facts.Declared.{field_of_file}
@@ -248,6 +248,16 @@ static_there (Some other) field e = by_static (is_static other.flags) refl e
     by_static true is e = (e, ap (λ (f : Declaration). is_static f.flags) (sym (same_some other field e)) ∙ is)
     by_static false is e = none_some field e
 
+-- what a field is set to is what its type keeps
+number_kept : (k : Kind) (whole : Bool) (number : ℤ) → IsKept k (if whole then Whole (narrowed k number) else Null)
+number_kept k true number = kept_is_kept k (Whole number)
+number_kept k false number = kept_is_kept k Null
+
+initial_kept : (k : Kind) (pushed : Option Pushed) → IsKept k (kept k pushed)
+initial_kept k (Some (Number number)) = number_kept k (is_whole_kind k) number
+initial_kept k (Some PushedNull) = default_kept k
+initial_kept k None = default_kept k
+
 module _ (world : World) (gathers : Gathers world.files None) (read : AllByRecursion IsRead world.files) where
   pub initial_fits : (objects : List Object) → StaticsFit world objects (statics_of world.files)
   initial_fits objects id field is =
@@ -261,4 +271,5 @@ module _ (world : World) (gathers : Gathers world.files None) (read : AllByRecur
         is = initial_there world.files id stands.has.file stands.field stands.has.own stands.has.is stands.there static;
         has = subst (λ (k : Kind). KindFits world objects (kind_of field) (kept k (set_last stands.has.file stands.field))) (sym same)
             (kept_fits world objects (kind_of field) (set_last stands.has.file stands.field) (field_of_names world.files gathers id.class id.member field there.0) (set_fits stands.has.file file stands.field));
+        kept = subst (λ (k : Kind). IsKept (kind_of field) (kept k (set_last stands.has.file stands.field))) (sym same) (initial_kept (kind_of field) (set_last stands.has.file stands.field));
       }
