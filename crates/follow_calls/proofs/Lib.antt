@@ -10,3 +10,7 @@ pub mod WaitingOperands
 pub mod ReferenceResults
 -- references of statics at their places
 pub mod StaticPlaces
+-- the value that a method returns
+pub mod ReturnedValues
+-- a method that returns a reference
+pub mod ReturnedReferences
