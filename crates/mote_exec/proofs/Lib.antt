@@ -10,3 +10,5 @@ pub mod Taking
 pub mod Jumping
 -- the cell on top
 pub mod TopCells
+-- a step that pushes a reference
+pub mod PushedReferences

@@ -9,10 +9,12 @@ mod halves;
 mod jumps;
 mod numbers;
 mod operands;
+mod references;
 mod small;
 
 pub use constants::constant;
 pub use jumps::{goto, jump_if_compared, jump_if_zero};
 pub use numbers::{binary, negate};
 pub use operands::pop;
+pub use references::null;
 pub use small::{extend_byte, extend_sign, extend_zero, keep_bit};
