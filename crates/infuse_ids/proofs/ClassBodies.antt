@@ -62,11 +62,11 @@ and_second false b e = refl
 -- ---- methods by class and position
 
 -- a method comes before another one
-abbrev IsBefore : MemberId → MemberId → Type 0
+abbrev pub IsBefore : MemberId → MemberId → Type 0
 IsBefore first second = (first.class < second.class) ⊎ ((first.class ≡ second.class) × (first.member < second.member))
 
 -- each method comes before all later ones
-AreRising : List MemberId → Type 0
+unfoldable pub AreRising : List MemberId → Type 0
 AreRising [] = Unit {0}
 AreRising (m ∷ ms) = AllByRecursion (IsBefore m) ms × AreRising ms
 
@@ -95,7 +95,7 @@ method_of_coded coded = member_at coded.class coded.position
 record IsListed (class position : ℕ) (ms : List MemberId) : Type 0 where
   own : HaveClass class ms
   from : HavePositionFrom position ms
-  rising : AreRising ms
+  pub rising : AreRising ms
 
 module _ (class : ℕ) (file : ClassFile) where
   -- what a method is, where it has code
@@ -164,7 +164,7 @@ methods_in first files = map method_of_coded (coded_in first files)
 
 record AreListed (first : ℕ) (ms : List MemberId) : Type 0 where
   from : HaveClassFrom first ms
-  rising : AreRising ms
+  pub rising : AreRising ms
 
 split_files : (first : ℕ) (file : ClassFile) (files : List ClassFile) → methods_in first (file ∷ files) ≡ map method_of_coded (coded_from first file 0 file.methods) ++ methods_in (suc first) files
 unfolding coded_in
@@ -229,22 +229,22 @@ is_one : (first second : MemberId) → IsBefore first second → (nat_eq first.c
 is_one first second (inl less) = ap (λ b. b && nat_eq first.member second.member) (not_same first.class second.class (omega (arith, less)))
 is_one first second (inr later) = and_second (nat_eq first.class second.class) (nat_eq first.member second.member) (not_same first.member second.member (omega (arith, later.1)))
 
-is_other : (first second : MemberId) → IsBefore first second → (nat_eq second.class first.class && nat_eq second.member first.member) ≡ false
+pub is_other : (first second : MemberId) → IsBefore first second → (nat_eq second.class first.class && nat_eq second.member first.member) ≡ false
 is_other first second (inl less) = ap (λ b. b && nat_eq second.member first.member) (not_same second.class first.class (omega (arith, less)))
 is_other first second (inr later) = and_second (nat_eq second.class first.class) (nat_eq second.member first.member) (not_same second.member first.member (omega (arith, later.1)))
 
-abbrev methods_of_bodies : List Body → List MemberId
+abbrev pub methods_of_bodies : List Body → List MemberId
 methods_of_bodies bodies = map method_of_body bodies
 
 none_later : (body : Body) (bodies : List Body) → AllByRecursion (IsBefore (method_of_body body)) (methods_of_bodies bodies) → AllByRecursion (λ (other : Body). is_body_of (method_of_body body) other ≡ false) bodies
 none_later body [] all = tt
 none_later body (other ∷ bodies) all = (is_one (method_of_body body) (method_of_body other) all.0, none_later body bodies all.1)
 
-is_ahead : (first : MemberId) (before : List Body) (body : Body) (after : List Body) → AllByRecursion (IsBefore first) (methods_of_bodies (before ++ body ∷ after)) → IsBefore first (method_of_body body)
+pub is_ahead : (first : MemberId) (before : List Body) (body : Body) (after : List Body) → AllByRecursion (IsBefore first) (methods_of_bodies (before ++ body ∷ after)) → IsBefore first (method_of_body body)
 is_ahead first [] body after all = all.0
 is_ahead first (other ∷ before) body after all = is_ahead first before body after all.1
 
-is_itself : (body : Body) → is_body_of (method_of_body body) body ≡ true
+pub is_itself : (body : Body) → is_body_of (method_of_body body) body ≡ true
 is_itself body = and_both (nat_eq body.class body.class) (nat_eq body.method body.method) ((Decides-eqb body.class body.class).1 refl) ((Decides-eqb body.method body.method).1 refl)
 
 found_once : (before : List Body) (body : Body) (after : List Body) → AreRising (methods_of_bodies (before ++ body ∷ after)) → filter (is_body_of (method_of_body body)) (before ++ body ∷ after) ≡ body ∷ []
@@ -310,8 +310,12 @@ module _ (files : List ClassFile) (bodies : List Body) (are : AreBodies files bo
   same : methods_in first_own files ≡ methods_of_bodies bodies
   same = same_methods files (coded_methods files) bodies are
 
-  rising : AreRising (methods_of_bodies bodies)
+  pub rising : AreRising (methods_of_bodies bodies)
   rising = subst AreRising same (files_listed first_own files).rising
+
+  -- their classes are those of the files
+  pub own_classes : AllByRecursion (λ (m : MemberId). first_own ≤ m.class) (methods_of_bodies bodies)
+  own_classes = subst (HaveClassFrom first_own) same (files_listed first_own files).from
 
   pub are_by_class : AreByClass bodies
   are_by_class = by_class bodies rising
@@ -360,67 +364,3 @@ module _ (files : List ClassFile) (bodies : List Body) (are : AreBodies files bo
       let methods : ℕ → List MemberId = λ class. map method_of_body (bodies_of_class bodies class) in
       ap (flat_map find) methods_right ∙ flat_map_twice methods find (class_order files)
       ∙ flat_map_same (λ (class : ℕ). flat_map find (methods class)) (bodies_of_class bodies) class_bodies (class_order files)
-
--- ---- between two numbers
-
-abbrev IsPoint : List Body → ℕ → ℕ → Type 0
-IsPoint bodies class at = IsPartitionPoint (λ (body : Body). nat_lt body.class class ≡ true) (λ (body : Body). nat_lt body.class class ≡ false) bodies at
-
-tail_point : (body : Body) (bodies : List Body) (class at : ℕ) → IsPoint (body ∷ bodies) class (suc at) → IsPoint bodies class at
-tail_point body bodies class at point = (λ k d low high. point.0 (suc k) d (omega arith) (omega (arith, high)), λ k d low high. point.1 (suc k) d (omega (arith, low)) (omega (arith, high)))
-
-tail_start : (body : Body) (bodies : List Body) (class : ℕ) → IsPoint (body ∷ bodies) class 0 → IsPoint bodies class 0
-tail_start body bodies class point = (λ k d low high. absurd (omega (arith, high)), λ k d low high. point.1 (suc k) d (omega arith) (omega (arith, high)))
-
-none_taken : (n m : ℕ) → (let none : List Body = [] in take m (drop n none) ≡ none)
-none_taken zero zero = refl
-none_taken zero (suc m) = refl
-none_taken (suc n) zero = refl
-none_taken (suc n) (suc m) = refl
-
-between_at : (class : ℕ) (bodies : List Body) (start end : ℕ) → IsPoint bodies class start → IsPoint bodies (class + 1) end → take (end - start) (drop start bodies) ≡ bodies_of_class bodies class
-between_at class [] start end first second = none_taken start (end - start)
-between_at class (body ∷ bodies) zero zero first second =
-    let above = ltb-false body.class (class + 1) (second.1 0 body (omega arith) (omega arith)) in
-    between_at class bodies zero zero (tail_start body bodies class first) (tail_start body bodies (class + 1) second)
-    ∙ sym (ap (λ b. cond b (body ∷ bodies_of_class bodies class) (bodies_of_class bodies class)) (not_same class body.class (omega (arith, above))))
-between_at class (body ∷ bodies) zero (suc end) first second =
-    let from = ltb-false body.class class (first.1 0 body (omega arith) (omega arith)) in
-    let below = ltb-true body.class (class + 1) (second.0 0 body (omega arith) (omega arith)) in
-    let many : suc end - 0 ≡ suc end = omega arith in
-    let rest : end ≡ end - 0 = omega arith in
-    ap (λ n. take n (body ∷ bodies)) many
-    ∙ ap (λ n. body ∷ take n bodies) rest
-    ∙ ap (λ ys. body ∷ ys) (between_at class bodies zero end (tail_start body bodies class first) (tail_point body bodies (class + 1) end second))
-    ∙ sym (ap (λ b. cond b (body ∷ bodies_of_class bodies class) (bodies_of_class bodies class)) ((Decides-eqb class body.class).1 (omega (arith, from, below))))
-between_at class (body ∷ bodies) (suc start) zero first second =
-    let below = ltb-true body.class class (first.0 0 body (omega arith) (omega arith)) in
-    let above = ltb-false body.class (class + 1) (second.1 0 body (omega arith) (omega arith)) in
-    absurd (omega (arith, below, above))
-between_at class (body ∷ bodies) (suc start) (suc end) first second =
-    let below = ltb-true body.class class (first.0 0 body (omega arith) (omega arith)) in
-    let same_length : suc end - suc start ≡ end - start = omega arith in
-    ap (λ n. take n (drop start bodies)) same_length
-    ∙ between_at class bodies start end (tail_point body bodies class start first) (tail_point body bodies (class + 1) end second)
-    ∙ sym (ap (λ b. cond b (body ∷ bodies_of_class bodies class) (bodies_of_class bodies class)) (not_same class body.class (omega (arith, below))))
-
-ordered_at : (class : ℕ) (bodies : List Body) (start end : ℕ) → start ≤ length bodies → IsPoint bodies class start → IsPoint bodies (class + 1) end → start ≤ end
-ordered_at class [] start end le first second = omega (arith, le)
-ordered_at class (body ∷ bodies) start end le first second =
-    elim (cases_lt end start) [
-      | inl less ↦
-          let at : Body = get_or (body ∷ bodies) end body in
-          let below = ltb-true at.class class (first.0 end body (omega arith) less) in
-          let above = ltb-false at.class (class + 1) (second.1 end body (omega arith) (omega (arith, less, le))) in
-          absurd (omega (arith, below, above))
-      | inr fine ↦ fine
-    ]
-
-module _ (class first second : ℕ) (bodies : List Body) (start end : ℕ) (is_first : first ≡ class) (is_second : second ≡ class) where
-  pub between : IsPoint bodies first start → IsPoint bodies (second + 1) end → take (end - start) (drop start bodies) ≡ bodies_of_class bodies class
-  between from to =
-      between_at class bodies start end (subst (λ (n : ℕ). IsPoint bodies n start) is_first from) (subst (λ (n : ℕ). IsPoint bodies (n + 1) end) is_second to)
-
-  pub is_ordered : start ≤ length bodies → IsPoint bodies first start → IsPoint bodies (second + 1) end → start ≤ end
-  is_ordered le from to =
-      ordered_at class bodies start end le (subst (λ (n : ℕ). IsPoint bodies n start) is_first from) (subst (λ (n : ℕ). IsPoint bodies (n + 1) end) is_second to)

@@ -6,7 +6,10 @@ mod OwnClasses
 mod ShownTypes
 mod ObjectFields
 mod DescriptorTexts
-mod ClassBodies
+-- the bodies of a set, class by class
+pub mod ClassBodies
+-- the part of a list that is of one class
+pub mod SortedParts
 mod ObjectSizes
 mod LargeObjects
 mod ClassTypes

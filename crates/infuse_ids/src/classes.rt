@@ -4,7 +4,7 @@ ghost use Rattle.std.specs.Prelude.{◌≡◌, ◌≤◌, [], ◌∷◌, ◌++�
 ghost use Rattle.std.specs.List.{AllByRecursion, filter_map};
 ghost use Rattle.std.specs.Option.{option_to_list};
 ghost use Rattle.library.specs.Classes.{first_own};
-ghost use Rattle.class_tree.specs.DirectSupers.{superclass_of as superclass_of_class, superinterfaces_of};
+ghost use Rattle.class_tree.specs.DirectSupers.{superclass_of as superclass_of_class, superinterfaces_of as superinterfaces_of_class};
 ghost use Rattle.class_tree.specs.Set.{own_name, file_of as file_of_class, named_among};
 ghost use Rattle.jvm_model.specs.ImageNumbering.{is_among, number_class as number_class_of, class_order as class_order_of};
 ghost use Rattle.infuse_ids.specs.declared.refusal.IdsRefusal.TheVariants.{Memory};
@@ -17,7 +17,7 @@ use library::FIRST_OWN;
 use std::alloc::{AllocError, Global};
 
 /// The file of a class, where it has one.
-pub(crate) fn file_of(set: &ClassSet, class: u16) -> Option<&ClassFile>
+pub fn file_of(set: &ClassSet, class: u16) -> Option<&ClassFile>
     ensures { option_copied result ≡ file_of_class set.now class }
 {
     if class < FIRST_OWN || set.file_count() <= class - FIRST_OWN {
@@ -64,9 +64,27 @@ fn add_named(
     Ok(())
 }
 
+/// The superinterfaces of a class in their order (JVMS 4.1); a class of the library has none.
+pub fn superinterfaces_of(
+    alloc: Global,
+    set: &ClassSet,
+    class: u16,
+) -> Result<Vec<u16>, AllocError>
+    ensures { IfOk result (λ uppers. uppers.items ≡ superinterfaces_of_class set.now class) }
+{
+    let mut uppers = Vec::new(alloc);
+    match file_of(set, class) {
+        Some(file) => {
+            add_named(set, file, file.interfaces.as_slice(), &mut uppers)?;
+            Ok(uppers)
+        }
+        None => Ok(uppers),
+    }
+}
+
 /// The superclass of a class, where it has one, and then its superinterfaces.
 fn uppers_of(alloc: Global, set: &ClassSet, class: u16) -> Result<Vec<u16>, AllocError>
-    ensures { IfOk result (λ uppers. uppers.items ≡ option_to_list (superclass_of_class set.now class) ++ superinterfaces_of set.now class) }
+    ensures { IfOk result (λ uppers. uppers.items ≡ option_to_list (superclass_of_class set.now class) ++ superinterfaces_of_class set.now class) }
 {
     let mut uppers = Vec::new(alloc);
     add_upper(&mut uppers, set.superclass_of(class))?;
@@ -128,7 +146,7 @@ fn number_class(
 }
 
 /// The classes of the files, each behind what stands above it.
-pub(crate) fn class_order(alloc: Global, set: &ClassSet) -> Result<IndexSet<u16>, IdsRefusal>
+pub fn class_order(alloc: Global, set: &ClassSet) -> Result<IndexSet<u16>, IdsRefusal>
     ensures order { IfOk result (λ order. order.keys ≡ class_order_of set.now) }
     ensures own { IfOk result (λ order. AllByRecursion (λ class. 32 ≤ class) order.keys) }
     ensures memory { IfErr result (λ why. why ≡ Memory) }

@@ -24,6 +24,7 @@ mod types;
 mod values;
 mod writes;
 
+pub use classes::{class_order, file_of, superinterfaces_of};
 pub use descriptor::selector_number;
 pub use laws::fields_come_from_superclasses;
 pub use numbering::number;
