@@ -12,3 +12,5 @@ pub mod Jumping
 pub mod TopCells
 -- a step that pushes a reference
 pub mod PushedReferences
+-- shuffles of a half of a frame
+pub mod Shuffled

@@ -15,6 +15,6 @@ mod small;
 pub use constants::constant;
 pub use jumps::{goto, jump_if_compared, jump_if_zero};
 pub use numbers::{binary, negate};
-pub use operands::pop;
+pub use operands::{drop_below, pop};
 pub use references::null;
 pub use small::{extend_byte, extend_sign, extend_zero, keep_bit};
