@@ -14,3 +14,5 @@ pub mod TopCells
 pub mod PushedReferences
 -- shuffles of a half of a frame
 pub mod Shuffled
+-- a step that moves references
+pub mod MovedReferences

@@ -10,6 +10,7 @@ mod jumps;
 mod numbers;
 mod operands;
 mod references;
+mod shuffles;
 mod small;
 
 pub use constants::constant;
@@ -17,4 +18,5 @@ pub use jumps::{goto, jump_if_compared, jump_if_zero};
 pub use numbers::{binary, negate};
 pub use operands::{drop_below, pop};
 pub use references::null;
+pub use shuffles::{duplicate, duplicate_refs, swap, swap_refs};
 pub use small::{extend_byte, extend_sign, extend_zero, keep_bit};
