@@ -16,3 +16,5 @@ pub mod PushedReferences
 pub mod Shuffled
 -- a step that moves references
 pub mod MovedReferences
+-- a step that takes references off the top
+pub mod TakenReferences

@@ -17,6 +17,6 @@ pub use constants::constant;
 pub use jumps::{goto, jump_if_compared, jump_if_zero};
 pub use numbers::{binary, negate};
 pub use operands::{drop_below, pop};
-pub use references::null;
+pub use references::{null, pop_refs};
 pub use shuffles::{duplicate, duplicate_refs, swap, swap_refs};
 pub use small::{extend_byte, extend_sign, extend_zero, keep_bit};
