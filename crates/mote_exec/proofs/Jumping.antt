@@ -13,7 +13,7 @@ use Rattle.mote_model.specs.State.{Frame, whole}
 use Rattle.mote_model.specs.Picture.{cell_of, KeepsFrame}
 use Rattle.mote_model.specs.SplitMoves.{at_pc, goes_on, jumps}
 use Rattle.mote_model.specs.SplitState.{with_frames}
-use Rattle.mote_model.specs.SplitStep.{move, move_of}
+use Rattle.mote_model.specs.SplitStep.{move_of}
 use Rattle.mote_model.specs.Turns.{TakesTick}
 use Rattle.split_safety.specs.Ready.{Shown}
 use Rattle.mote_exec.specs.Steps.{IsStep, StepsTo, GoesTo, Jumps, Jumped, WasSpent, is_tick, stepped, with_stack, with_taken}

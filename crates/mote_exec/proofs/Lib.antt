@@ -18,3 +18,7 @@ pub mod Shuffled
 pub mod MovedReferences
 -- a step that takes references off the top
 pub mod TakenReferences
+-- references of one object
+pub mod SameObjects
+-- tests of references
+pub mod ReferenceTesting
