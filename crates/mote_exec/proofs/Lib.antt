@@ -12,3 +12,13 @@ pub mod Jumping
 pub mod TopCells
 -- a step that pushes a reference
 pub mod PushedReferences
+-- shuffles of a half of a frame
+pub mod Shuffled
+-- a step that moves references
+pub mod MovedReferences
+-- a step that takes references off the top
+pub mod TakenReferences
+-- references of one object
+pub mod SameObjects
+-- tests of references
+pub mod ReferenceTesting
