@@ -65,11 +65,7 @@ fn add_named(
 }
 
 /// The superinterfaces of a class in their order (JVMS 4.1); a class of the library has none.
-pub fn superinterfaces_of(
-    alloc: Global,
-    set: &ClassSet,
-    class: u16,
-) -> Result<Vec<u16>, AllocError>
+pub fn superinterfaces_of(alloc: Global, set: &ClassSet, class: u16) -> Result<Vec<u16>, AllocError>
     ensures { IfOk result (λ uppers. uppers.items ≡ superinterfaces_of_class set.now class) }
 {
     let mut uppers = Vec::new(alloc);

@@ -1,17 +1,17 @@
 -- A linked set is compiled.
-use Rattle.std.proofs.Common.{◌≡◌, ℕ, List, [], ◌∷◌, map, Some, None, refl, sym, ap, ap₂, subst, ◌∙◌}
+use Rattle.std.proofs.Common.{◌≡◌, List, [], ◌∷◌, map, Some, None, refl, sym, ap, ap₂, subst, ◌∙◌}
 use Rattle.std.specs.List.{AllByRecursion}
 use Rattle.std.specs.Option.{option_map_or}
 use Rattle.body_form.specs.declared.body.Body.{Body}
 use Rattle.jvm_model.specs.declared.plan.Plan.{Plan}
 use Rattle.jvm_model.specs.ImageEmission.{Source, source_of, method_of}
 use Rattle.jvm_model.specs.ImageNumbering.{ids_of}
-use Rattle.jvm_model.specs.TypesRight.{Table, IsRight}
+use Rattle.jvm_model.specs.TypesRight.{IsRight}
 use Rattle.jvm_model.specs.WidthsFrame.{plan_of}
-use Rattle.mote_model.specs.SplitState.{frame_cells, method_at}
+use Rattle.mote_model.specs.SplitState.{frame_cells}
 use Rattle.type_safety.specs.Safety.{AreTyped, IsSet, PhasesGiveFacts}
 use Rattle.type_safety.specs.Safety as safety
-use Rattle.match_states.specs.Setting.{IsCompiledBody, id_for, plan_for, source_for, table_for}
+use Rattle.match_states.specs.Setting.{IsCompiledBody, plan_for, source_for, table_for}
 use Rattle.class_order.specs.Orders.{ClassOrderIsRight}
 use Rattle.set_image.specs.Linked.{Linked, IsLinked, IsOfFiles, IsTyped, Typed, body_of, image_in, method_in, source_in}
 use Rattle.set_image.specs.Linked as linked_set

@@ -1,15 +1,13 @@
 -- The typed body of each method of a set is found by its method, and no other one is.
-use Rattle.std.proofs.Common.{◌≡◌, ◌⊎◌, ℕ, ◌<◌, Bool, true, false, ◌&&◌, cond, nat_eq, List, [], ◌∷◌, ◌++◌, map, Some, refl, sym, ap, subst, ◌∙◌, append_assoc}
-use Rattle.std.specs.List.{AllByRecursion, find}
+use Rattle.std.proofs.Common.{◌≡◌, true, cond, nat_eq, List, [], ◌∷◌, ◌++◌, map, Some, sym, ap, subst, ◌∙◌, append_assoc}
+use Rattle.std.specs.List.{AllByRecursion}
 use Rattle.std.proofs.lemmas.Bool.{and_parts}
 use Rattle.std.proofs.lemmas.Bool.Decides.{Decides-eqb}
 use Rattle.std.proofs.lemmas.Option.{same_Some}
 use Rattle.class_pool.specs.declared.types.MemberId.{MemberId}
 use Rattle.class_file.specs.declared.record.ClassFile.{ClassFile}
 use Rattle.class_tree.specs.Members.{member_at}
-use Rattle.body_form.specs.declared.body.Body.{Body}
 use Rattle.jvm_model.specs.Bodies.{AreBodies}
-use Rattle.jvm_model.specs.ImageNumbering.{is_body_of}
 use Rattle.infuse_ids.specs.Orders.{method_of_body}
 use Rattle.infuse_ids.proofs.ClassBodies.{AreRising, IsBefore, is_itself, is_other, methods_of_bodies, rising}
 use Rattle.set_image.specs.Linked.{Typed, body_of}
@@ -43,9 +41,10 @@ IsFound code typed = typed_among code (own_method typed) ≡ Some typed
 each_found : (before after : List Typed) → AreInOrder (before ++ after) → AllByRecursion (IsFound (before ++ after)) after
 each_found before [] order = tt
 each_found before (typed ∷ after) order =
-    let shift : (before ++ typed ∷ []) ++ after ≡ before ++ typed ∷ after = append_assoc before (typed ∷ []) after in
-    (found_among before typed after order,
-    subst (λ code. AllByRecursion (IsFound code) after) shift (each_found (before ++ typed ∷ []) after (subst AreInOrder (sym shift) order)))
+    let shift : (before ++ typed ∷ []) ++ after ≡ before ++ typed ∷ after = append_assoc before (typed ∷ []) after in (
+      found_among before typed after order,
+      subst (λ code. AllByRecursion (IsFound code) after) shift (each_found (before ++ typed ∷ []) after (subst AreInOrder (sym shift) order)),
+    )
 
 module _ (classes : List ClassFile) (code : List Typed) (are : AreBodies classes (map body_of code)) where
   pub all_found : AllByRecursion (IsFound code) code

@@ -1,5 +1,5 @@
 -- The methods of the image of a set stand at the ids of their bodies.
-use Rattle.std.proofs.Common.{◌≡◌, inl, inr, ℕ, zero, suc, ◌+◌, ◌-◌, ◌<◌, ◌≤◌, Bool, true, false, ◌&&◌, cond, nat_eq, nat_lt, List, [], ◌∷◌, ◌++◌, map, filter, length, slice_get, position, Option, Some, None, unwrap_or, is_some, refl, sym, ap, ap₂, subst, ◌∙◌, arith}
+use Rattle.std.proofs.Common.{◌≡◌, inl, inr, ℕ, zero, suc, ◌+◌, ◌-◌, ◌<◌, ◌≤◌, Bool, true, false, cond, nat_eq, nat_lt, List, [], ◌∷◌, ◌++◌, map, filter, length, slice_get, position, Some, None, unwrap_or, is_some, refl, sym, ap, ap₂, ◌∙◌, arith}
 use Rattle.std.specs.List.{AllByRecursion, find, flat_map, list_any}
 use Rattle.std.specs.Option.{option_map_or}
 use Rattle.std.proofs.lemmas.Bool.{le-ltb}
@@ -21,7 +21,7 @@ use Rattle.infuse_ids.specs.Orders.{bodies_of_class, method_of_body, methods_ove
 use Rattle.infuse_ids.specs.Orders as orders
 use Rattle.infuse_ids.proofs.ClassBodies.{filter_map_same, is_itself, methods_of_bodies, methods_right, own_classes}
 use Rattle.set_laws.proofs.CodedMethods.{StandsIn, methods_stand}
-use Rattle.set_image.specs.Linked.{Linked, Typed, body_of, in_order, is_of_class}
+use Rattle.set_image.specs.Linked.{Typed, body_of, in_order, is_of_class}
 use Rattle.set_compile.specs.Settings.{is_typed_of, typed_among}
 use Rattle.set_compile.proofs.FoundCode.{all_found, all_same, own_method}
 use Rattle.set_compile.proofs.KeyedLists.{all_filtered, all_flat, any_filtered, any_flat, any_found, found_only, placed_seen}

@@ -1,10 +1,9 @@
 -- What the laws on runs are told of a set: its world, its types and layouts by method, and its image.
-use Rattle.std.specs.Prelude.{ℕ, Bool, ◌&&◌, nat_eq, List, [], Option, None}
+use Rattle.std.specs.Prelude.{Bool, List, [], Option, None}
 use Rattle.std.specs.List.{find}
 use Rattle.std.specs.Option.{option_map_or}
 use Rattle.class_pool.specs.declared.types.MemberId.{MemberId}
 use Rattle.jvm_model.specs.declared.plan.Plan.{Plan}
-use Rattle.jvm_model.specs.TypesRight.{Table}
 use Rattle.jvm_model.specs.ImageNumbering.{is_body_of}
 use Rattle.typed_machine.specs.TypedWorld.{World}
 use Rattle.type_safety.specs.Fitting.{Tables}
