@@ -6,6 +6,10 @@ pub mod PoolNumbers
 pub mod ClassWays
 -- what is read of a class file keeps the rules of its members
 pub mod ReadRules
+-- a method that is read has few arguments
+pub mod ArgumentSlots
+-- a switch has at most as many rows as its code has bytes
+pub mod RowCounts
 -- the files of a set are read, and their code fits
 pub mod CodeRead
 -- what a class declares by a name and a descriptor
