@@ -36,6 +36,8 @@ pub mod FoundMethods
 pub mod NamedMethods
 -- the methods that invokespecial names
 pub mod NamedSpecial
+-- calls, switches and arrays of a set count little
+pub mod FewCounts
 -- a typed call of a constructor names a class that is no interface
 pub mod ConstructorCalls
 -- all facts of a body of a set

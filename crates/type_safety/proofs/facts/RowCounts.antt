@@ -5,7 +5,6 @@ use Rattle.std.specs.List.{AllByRecursion}
 use Rattle.std.specs.Int.{w64, cast_unsigned}
 use Rattle.std.specs.Int.Signed.{lt_z}
 use Rattle.std.proofs.lemmas.Bool.{ltb-false}
-use Rattle.byteorder.specs.Endian.{big_number}
 use Rattle.byte_read.specs.Reading.{◌>>=◌, number_at, slice_at as bytes_at}
 use Rattle.cell_num.specs.declared.arithmetic.BinOp.{BinOp}
 use Rattle.insn_form.specs.declared.SwitchRow.{SwitchRow}
@@ -48,11 +47,11 @@ LeavesFewer bytes x = length x.1 < length bytes
 
 u4_fewer : (bytes : List ℕ) → Sure (LeavesFewer bytes) (u4_at bytes)
 unfolding number_at
-u4_fewer bytes = by_room (nat_lt (length bytes) 4) refl
+u4_fewer bytes = by_room _ (nat_lt (length bytes) 4) refl
   where
-    by_room : (short : Bool) → nat_lt (length bytes) 4 ≡ short → Sure (LeavesFewer bytes) (cond short (Err BadCode) (Ok (big_number 4 bytes, drop 4 bytes)))
-    by_room true e = tt
-    by_room false e =
+    by_room : (number : ℕ) (short : Bool) → nat_lt (length bytes) 4 ≡ short → Sure (LeavesFewer bytes) (cond short (Err BadCode) (Ok (number, drop 4 bytes)))
+    by_room number true e = tt
+    by_room number false e =
         let room : 4 ≤ length bytes = ltb-false (length bytes) 4 e in
         omega (arith, room, length-drop 4 bytes)
 
