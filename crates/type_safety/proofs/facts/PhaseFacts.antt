@@ -46,7 +46,7 @@ use Rattle.jvm_model.proofs.bodies.BodyNames.{then_ok, passes_ok, used_type}
 use Rattle.typed_machine.specs.TypedWorld.{World}
 use Rattle.type_safety.specs.Facts.{IsConcrete, Named, is_named_constructor, BodyFacts}
 use Rattle.type_safety.specs.Fitting.{Tables}
-use Rattle.type_safety.specs.Safety.{PhasesGiveFacts, method_of}
+use Rattle.type_safety.specs.Safety.{IsTyped, PhasesGiveFacts, method_of}
 use Rattle.type_safety.proofs.fitting.SetLists.{none_some, same_some, all_at, all_contained, not_true_is, each_back}
 use Rattle.type_safety.proofs.facts.ReadRules.{MethodRules, HasCode}
 use Rattle.type_safety.proofs.facts.ArgumentSlots.{arguments_few, receiver_counted, static_by_flags}
@@ -286,7 +286,7 @@ module _ (world : World) (gathers : Gathers world.files None) (rank : ℕ → �
         by_family each.0 each.1 each.2
       where
         by_family : (x : ℕ × Insn) → Reads x → IsFamily files of.coded.class of.coded.file.pool (code_ways of.coded.code.handlers of.coded.insns) x (pc, instruction) → IsMade pc instruction ⊎ (instruction ≡ op.Nop)
-        by_family x reads (IsResolved same reached is) = inl (record { insn = x.1; numbers = numbers; reached = subst (reach.IsReached (code_ways of.coded.code.handlers of.coded.insns)) (sym same) reached; is = is })
+        by_family x reads (IsResolved same reached is) = inl (record { insn = x.1; numbers = reads.0; switches = reads.1; reached = subst (reach.IsReached (code_ways of.coded.code.handlers of.coded.insns)) (sym same) reached; is = is })
         by_family x reads (IsNop same unreached is) = inr is
 
     -- what is made at a pc is an object of a class of which there are objects

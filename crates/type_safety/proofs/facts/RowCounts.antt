@@ -8,8 +8,6 @@ use Rattle.std.proofs.lemmas.Bool.{ltb-false}
 use Rattle.byte_read.specs.Reading.{◌>>=◌, number_at, slice_at as bytes_at}
 use Rattle.cell_num.specs.declared.arithmetic.BinOp.{BinOp}
 use Rattle.insn_form.specs.declared.SwitchRow.{SwitchRow}
-use Rattle.class_code.specs.declared.refusal.Fault.{Fault}
-use Rattle.class_code.specs.declared.refusal.Fault.TheVariants.{Unsupported, BadCode}
 use Rattle.class_code.specs.declared.insn.Insn.{Insn}
 use Rattle.class_code.specs.declared.insn.Insn.TheVariants.{Switch}
 use Rattle.class_code.specs.Operands.{u1_at, u2_at, u4_at, i1_at, i2_at, i4_at, slice_at, target_at, far_target_at}
@@ -25,19 +23,15 @@ HasRowsWithin most _ = Unit {0}
 -- ---- what is read of bytes
 
 -- what was read is so, with what is left
-abbrev Sure : {A : Type 0} → (A × List ℕ → Type 0) → Result (A × List ℕ) Fault → Type 0
+abbrev Sure : {E A : Type 0} → (A × List ℕ → Type 0) → Result (A × List ℕ) E → Type 0
 Sure P (Ok x) = P x
 Sure P (Err why) = Unit {0}
 
-sure-then : {A B : Type 0} (P : A × List ℕ → Type 0) (Q : B × List ℕ → Type 0) (read : Result (A × List ℕ) Fault) (f : A × List ℕ → Result (B × List ℕ) Fault) → Sure P read → ((x : A × List ℕ) → P x → Sure Q (f x)) → Sure Q (read >>= f)
+sure-then : {E A B : Type 0} (P : A × List ℕ → Type 0) (Q : B × List ℕ → Type 0) (read : Result (A × List ℕ) E) (f : A × List ℕ → Result (B × List ℕ) E) → Sure P read → ((x : A × List ℕ) → P x → Sure Q (f x)) → Sure Q (read >>= f)
 sure-then P Q (Ok x) f h k = k x h
 sure-then P Q (Err why) f h k = tt
 
-any-then : {A B : Type 0} (Q : B × List ℕ → Type 0) (read : Result A Fault) (f : A → Result (B × List ℕ) Fault) → ((x : A) → Sure Q (f x)) → Sure Q (read >>= f)
-any-then Q (Ok x) f k = k x
-any-then Q (Err why) f k = tt
-
-either : {A : Type 0} (P : A × List ℕ → Type 0) (b : Bool) (x y : Result (A × List ℕ) Fault) → Sure P x → Sure P y → Sure P (cond b x y)
+either : {E A : Type 0} (P : A × List ℕ → Type 0) (b : Bool) (x y : Result (A × List ℕ) E) → Sure P x → Sure P y → Sure P (cond b x y)
 either P true x y h k = h
 either P false x y h k = k
 
@@ -45,11 +39,11 @@ either P false x y h k = k
 abbrev LeavesFewer : {A : Type 0} → List ℕ → A × List ℕ → Type 0
 LeavesFewer bytes x = length x.1 < length bytes
 
-u4_fewer : (bytes : List ℕ) → Sure (LeavesFewer bytes) (u4_at bytes)
+u4_fewer : {E : Type 0} (missed : E) (bytes : List ℕ) → Sure (LeavesFewer bytes) (number_at missed 4 bytes)
 unfolding number_at
-u4_fewer bytes = by_room _ (nat_lt (length bytes) 4) refl
+u4_fewer {E = E} missed bytes = by_room _ (nat_lt (length bytes) 4) refl
   where
-    by_room : (number : ℕ) (short : Bool) → nat_lt (length bytes) 4 ≡ short → Sure (LeavesFewer bytes) (cond short (Err BadCode) (Ok (number, drop 4 bytes)))
+    by_room : (number : ℕ) (short : Bool) → nat_lt (length bytes) 4 ≡ short → Sure (LeavesFewer bytes) (cond short (Err missed) (Ok (number, drop 4 bytes)))
     by_room number true e = tt
     by_room number false e =
         let room : 4 ≤ length bytes = ltb-false (length bytes) 4 e in
@@ -57,7 +51,7 @@ u4_fewer bytes = by_room _ (nat_lt (length bytes) 4) refl
 
 i4_fewer : (bytes : List ℕ) → Sure (LeavesFewer bytes) (i4_at bytes)
 unfolding i4_at
-i4_fewer bytes = sure-then (LeavesFewer bytes) (LeavesFewer bytes) (u4_at bytes) _ (u4_fewer bytes) (λ x fewer. fewer)
+i4_fewer bytes = sure-then (LeavesFewer bytes) (LeavesFewer bytes) (u4_at bytes) _ (u4_fewer _ bytes) (λ x fewer. fewer)
 
 far_fewer : (pc : ℕ) (bytes : List ℕ) → Sure (LeavesFewer bytes) (far_target_at pc bytes)
 unfolding far_target_at
@@ -81,7 +75,7 @@ unfolding lookup_row
 lookup_row_fewer pc before bytes =
     sure-then (LeavesFewer bytes) (LeavesFewer bytes) (i4_at bytes) _ (i4_fewer bytes) (λ key fewer.
     sure-then (LeavesFewer key.1) (LeavesFewer bytes) (far_target_at pc key.1) _ (far_fewer pc key.1) (λ target fewer_still.
-    either (LeavesFewer bytes) (is_above before key.0) (Ok (record { key = key.0; target = target.0 }, target.1)) (Err BadCode) (omega (arith, fewer, fewer_still)) tt))
+    either (LeavesFewer bytes) (is_above before key.0) (Ok (record { key = key.0; target = target.0 }, target.1)) (Err _) (omega (arith, fewer, fewer_still)) tt))
 
 lookup_rows_few : (pc : ℕ) (before : Option ℤ) (count : ℕ) (bytes : List ℕ) → Sure (RowsOf bytes) (lookup_rows pc before count bytes)
 unfolding lookup_rows
@@ -93,18 +87,18 @@ lookup_rows_few pc before (suc count) bytes =
 -- ---- instructions
 
 module _ (most : ℕ) where
-  abbrev Few : Prefix → Type 0
+  abbrev Few : {E : Type 0} → Result (Insn × List ℕ) E → Type 0
   Few read = Sure (λ x. HasRowsWithin most x.0) read
 
   -- at most so many bytes are left
   abbrev LeavesMost : {A : Type 0} → A × List ℕ → Type 0
   LeavesMost x = length x.1 ≤ most
 
-  few-then : {A : Type 0} (read : Result A Fault) (f : A → Prefix) → ((x : A) → Few (f x)) → Few (read >>= f)
+  few-then : {E A : Type 0} (read : Result A E) (f : A → Result (Insn × List ℕ) E) → ((x : A) → Few (f x)) → Few (read >>= f)
   few-then (Ok x) f k = k x
   few-then (Err why) f k = tt
 
-  few-if : (b : Bool) (x y : Prefix) → Few x → Few y → Few (cond b x y)
+  few-if : {E : Type 0} (b : Bool) (x y : Result (Insn × List ℕ) E) → Few x → Few y → Few (cond b x y)
   few-if true x y h k = h
   few-if false x y h k = k
 
@@ -160,29 +154,29 @@ module _ (most : ℕ) where
 
   -- ---- switches
 
-  abbrev AtMost : Result (List ℕ) Fault → Type 0
+  abbrev AtMost : {E : Type 0} → Result (List ℕ) E → Type 0
   AtMost (Ok rest) = length rest ≤ most
   AtMost (Err why) = Unit {0}
 
-  after-padding : (read : Result (List ℕ) Fault) (f : List ℕ → Prefix) → AtMost read → ((rest : List ℕ) → length rest ≤ most → Few (f rest)) → Few (read >>= f)
+  after-padding : {E : Type 0} (read : Result (List ℕ) E) (f : List ℕ → Result (Insn × List ℕ) E) → AtMost read → ((rest : List ℕ) → length rest ≤ most → Few (f rest)) → Few (read >>= f)
   after-padding (Ok rest) f h k = k rest h
   after-padding (Err why) f h k = tt
 
-  padding_left : (size : ℕ) (bytes : List ℕ) → length bytes ≤ most → AtMost (slice_at size bytes >>= λ padding. cond (are_zero padding.0) (Ok padding.1) (Err BadCode))
+  padding_left : {E : Type 0} (missed why : E) (size : ℕ) (bytes : List ℕ) → length bytes ≤ most → AtMost (bytes_at missed size bytes >>= λ padding. cond (are_zero padding.0) (Ok padding.1) (Err why))
   unfolding bytes_at
-  padding_left size bytes le = by_room (nat_lt (length bytes) size)
+  padding_left missed why size bytes le = by_room (take size bytes, drop size bytes) (omega (arith, le, length-drop size bytes)) (nat_lt (length bytes) size)
     where
-      by_zeros : (zeros : Bool) → AtMost (cond zeros (Ok (drop size bytes)) (Err BadCode))
-      by_zeros true = omega (arith, le, length-drop size bytes)
-      by_zeros false = tt
+      by_zeros : (rest : List ℕ) → length rest ≤ most → (zeros : Bool) → AtMost (cond zeros (Ok rest) (Err why))
+      by_zeros rest le true = le
+      by_zeros rest le false = tt
 
-      by_room : (short : Bool) → AtMost (cond short (Err BadCode) (Ok (take size bytes, drop size bytes)) >>= λ padding. cond (are_zero padding.0) (Ok padding.1) (Err BadCode))
-      by_room true = tt
-      by_room false = by_zeros (are_zero (take size bytes))
+      by_room : (pair : List ℕ × List ℕ) → length pair.1 ≤ most → (short : Bool) → AtMost (cond short (Err missed) (Ok pair) >>= λ padding. cond (are_zero padding.0) (Ok padding.1) (Err why))
+      by_room pair le true = tt
+      by_room pair le false = by_zeros pair.1 le (are_zero pair.0)
 
   padding_most : (pc : ℕ) (bytes : List ℕ) → length bytes ≤ most → AtMost (padding_at pc bytes)
   unfolding padding_at
-  padding_most pc bytes le = padding_left _ bytes le
+  padding_most pc bytes le = padding_left _ _ _ bytes le
 
   -- one more operand of four bytes
   i4-then : (bytes : List ℕ) (f : ℤ × List ℕ → Prefix) → length bytes ≤ most → ((x : ℤ × List ℕ) → length x.1 ≤ most → Few (f x)) → Few (i4_at bytes >>= f)
@@ -196,8 +190,8 @@ module _ (most : ℕ) where
   few-tableswitch pc bytes le =
       after-padding (padding_at pc bytes) _ (padding_most pc bytes le) (λ padded le0.
       far-then pc padded _ le0 (λ default le1. i4-then default.1 _ le1 (λ low le2. i4-then low.1 _ le2 (λ high le3.
-      sure-then (RowsOf high.1) (λ x. HasRowsWithin most x.0) (cond (lt_z high.0 low.0) (Err BadCode) (table_rows pc low.0 0 (span low.0 high.0) high.1)) _
-      (either (RowsOf high.1) (lt_z high.0 low.0) (Err BadCode) (table_rows pc low.0 0 (span low.0 high.0) high.1) tt (table_rows_few pc low.0 0 (span low.0 high.0) high.1))
+      sure-then (RowsOf high.1) (λ x. HasRowsWithin most x.0) (cond (lt_z high.0 low.0) (Err _) (table_rows pc low.0 0 (span low.0 high.0) high.1)) _
+      (either (RowsOf high.1) (lt_z high.0 low.0) (Err _) (table_rows pc low.0 0 (span low.0 high.0) high.1) tt (table_rows_few pc low.0 0 (span low.0 high.0) high.1))
       (λ rows few. omega (arith, few, le3))))))
 
   few-lookupswitch : (pc : ℕ) (bytes : List ℕ) → length bytes ≤ most → Few (lookupswitch pc bytes)
@@ -205,8 +199,8 @@ module _ (most : ℕ) where
   few-lookupswitch pc bytes le =
       after-padding (padding_at pc bytes) _ (padding_most pc bytes le) (λ padded le0.
       far-then pc padded _ le0 (λ default le1. i4-then default.1 _ le1 (λ count le2.
-      sure-then (RowsOf count.1) (λ x. HasRowsWithin most x.0) (cond (lt_z count.0 (pos 0)) (Err BadCode) (lookup_rows pc None (cast_unsigned w64 count.0) count.1)) _
-      (either (RowsOf count.1) (lt_z count.0 (pos 0)) (Err BadCode) (lookup_rows pc None (cast_unsigned w64 count.0) count.1) tt (lookup_rows_few pc None (cast_unsigned w64 count.0) count.1))
+      sure-then (RowsOf count.1) (λ x. HasRowsWithin most x.0) (cond (lt_z count.0 (pos 0)) (Err _) (lookup_rows pc None (cast_unsigned w64 count.0) count.1)) _
+      (either (RowsOf count.1) (lt_z count.0 (pos 0)) (Err _) (lookup_rows pc None (cast_unsigned w64 count.0) count.1) tt (lookup_rows_few pc None (cast_unsigned w64 count.0) count.1))
       (λ rows few. omega (arith, few, le2)))))
 
   few-control : (pc opcode : ℕ) (bytes : List ℕ) → length bytes ≤ most → Few (control pc opcode bytes)
@@ -220,7 +214,7 @@ module _ (most : ℕ) where
 
   few-call_interface : (bytes : List ℕ) → Few (call_interface bytes)
   unfolding call_interface
-  few-call_interface bytes = few-then (u2_at bytes) _ (λ method. few-then (u1_at method.1) _ (λ count. few-then (u1_at count.1) _ (λ zero_byte. few-if (zero_byte.0 == 0) _ (Err BadCode) tt tt)))
+  few-call_interface bytes = few-then (u2_at bytes) _ (λ method. few-then (u1_at method.1) _ (λ count. few-then (u1_at count.1) _ (λ zero_byte. few-if (zero_byte.0 == 0) _ (Err _) tt tt)))
 
   few-member_insn : (opcode index : ℕ) → HasRowsWithin most (member_insn opcode index)
   unfolding member_insn
@@ -252,7 +246,7 @@ module _ (most : ℕ) where
   unfolding widened
   few-widened opcode bytes =
       few-if (opcode == 21) _ _ (few-then (u2_at bytes) _ (λ x. tt)) (few-if (opcode == 25) _ _ (few-then (u2_at bytes) _ (λ x. tt)) (few-if (opcode == 54) _ _ (few-then (u2_at bytes) _ (λ x. tt))
-      (few-if (opcode == 58) _ _ (few-then (u2_at bytes) _ (λ x. tt)) (few-if (opcode == 132) _ _ (few-wide_increment bytes) (few-if (is_within 22 24 opcode || is_within 55 57 opcode || opcode == 169) (Err (Unsupported opcode)) (Err BadCode) tt tt)))))
+      (few-if (opcode == 58) _ _ (few-then (u2_at bytes) _ (λ x. tt)) (few-if (opcode == 132) _ _ (few-wide_increment bytes) (few-if (is_within 22 24 opcode || is_within 55 57 opcode || opcode == 169) _ _ tt tt)))))
 
   few-wide : (bytes : List ℕ) → Few (wide bytes)
   unfolding wide
@@ -271,7 +265,7 @@ module _ (most : ℕ) where
   few-extended pc opcode bytes =
       few-if (opcode == 196) _ _ (few-wide bytes) (few-if (opcode == 197) _ _ (few-multi_array bytes)
       (few-if (opcode == 198) _ _ (few-branch pc opcode bytes) (few-if (opcode == 199) _ _ (few-branch pc opcode bytes)
-      (few-if (opcode == 200) _ _ (few-goto_w pc bytes) (few-if (opcode == 201) (Err (Unsupported opcode)) (Err BadCode) tt tt)))))
+      (few-if (opcode == 200) _ _ (few-goto_w pc bytes) (few-if (opcode == 201) _ _ tt tt)))))
 
   few-by_opcode : (pc opcode : ℕ) (bytes : List ℕ) → length bytes ≤ most → Few (by_opcode pc opcode bytes)
   unfolding by_opcode
