@@ -1,2 +1,4 @@
 -- pcs that rise, and the rows of switches
 mod KeptRows
+-- what instructions count, and how many parameters there are
+mod KeptCounts
