@@ -2,3 +2,5 @@
 mod KeptRows
 -- what instructions count, and how many parameters there are
 mod KeptCounts
+-- the numbers of machine instructions are of their types
+mod ranges

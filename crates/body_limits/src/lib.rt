@@ -4,7 +4,7 @@
 //! `match_code`, `expansion` and `jvm_model`.
 #![tactic(auto)]
 
-ghost use Rattle.body_limits.specs.Limits.{CountsAreKept, ParametersAreFew, PcsRise, RowsAreKept};
+ghost use Rattle.body_limits.specs.Limits.{CountsAreKept, NumbersAreInRange, ParametersAreFew, PcsRise, RowsAreKept};
 
 use type_safety::typed_code_is_safe;
 
@@ -14,6 +14,7 @@ pub fn bodies_keep_limits()
     ensures rows { RowsAreKept }
     ensures counts { CountsAreKept }
     ensures parameters { ParametersAreFew }
+    ensures ranges { NumbersAreInRange }
 {
     typed_code_is_safe();
 }
