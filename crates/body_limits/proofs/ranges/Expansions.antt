@@ -1,5 +1,5 @@
 -- The numbers of the machine instructions of each family are of their types.
-use Rattle.std.proofs.Common.{ℕ, ◌^◌, ◌<◌, ◌++◌, get_or, Option, arith}
+use Rattle.std.proofs.Common.{ℕ, ◌^◌, ◌<◌, true, get_or, Option, arith}
 use Rattle.std.specs.List.{AllByRecursion}
 use Rattle.class_pool.specs.declared.descriptor.Kind.{Kind as DeclaredKind}
 use Rattle.class_pool.specs.declared.types.TypeBase.TheVariants as base

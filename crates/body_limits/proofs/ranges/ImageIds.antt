@@ -11,10 +11,11 @@ use Rattle.class_pool.specs.declared.types.MemberId.{MemberId}
 use Rattle.class_pool.specs.declared.types.TypeBase.{TypeBase}
 use Rattle.class_pool.specs.declared.types.TypeBase.TheVariants as base
 use Rattle.class_pool.specs.declared.types.TypeRef.{TypeRef}
+use Rattle.class_pool.specs.Descriptors.{descriptor_text}
 use Rattle.body_form.specs.declared.op.MethodUse.{MethodUse}
 use Rattle.jvm_model.specs.declared.numbers.FieldPlace.{FieldPlace}
 use Rattle.jvm_model.specs.ImageExpansion.{Ids}
-use Rattle.jvm_model.specs.ImageNumbering.{Numbering, is_member, is_type, number_from, method_id, place_listed, library_class, library_id, type_id, ids_of}
+use Rattle.jvm_model.specs.ImageNumbering.{Numbering, is_member, is_type, is_selector, number_from, method_id, place_listed, library_class, library_id, type_id, ids_of}
 use Rattle.type_safety.proofs.fitting.SetLists.{none_some, same_some}
 
 -- what instructions name has numbers of two bytes
@@ -88,11 +89,11 @@ method_low methods few member = by_native (slice_get (natives_of member.class) m
 place_low : (fields : List FieldPlace) → AllByRecursion (λ (field : FieldPlace). field.place < 65536) fields → (member : MemberId) → place_listed fields member < 2 ^ 16
 unfolding place_listed
 place_low [] low member = omega arith
-place_low (field ∷ fields) low member = by_member (is_member member field.member)
+place_low (field ∷ fields) low member = by_member (is_member member field.member) (place_low fields low.1 member)
   where
-    by_member : (here : Bool) → (if here then field.place else place_listed fields member) < 2 ^ 16
-    by_member true = low.0
-    by_member false = place_low fields low.1 member
+    by_member : (here : Bool) → place_listed fields member < 2 ^ 16 → (if here then field.place else place_listed fields member) < 2 ^ 16
+    by_member true later = low.0
+    by_member false later = later
 
 -- ---- all of them
 
@@ -104,6 +105,6 @@ ids_fit numbering types methods selectors places =
       type = type_low numbering.types types;
       method = method_low numbering.methods methods;
       selector = λ used.
-          let low = number_low 0 65536 _ numbering.selectors selectors in
+          let low = number_low 0 65536 (is_selector used.name (descriptor_text used.descriptor)) numbering.selectors selectors in
           omega (arith, low);
     }

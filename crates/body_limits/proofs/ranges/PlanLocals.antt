@@ -59,17 +59,17 @@ placed at count place false within is = none_some place is
 cell_low : (from : ℕ) (rooms : List Room) (local cell : ℕ) → first_cell from rooms local ≡ Some cell → cell ≤ from + room_cells rooms
 unfolding first_cell
 cell_low from [] local cell is = none_some cell is
-cell_low from (room ∷ rooms) local cell is = by_local (nat_eq room.0 local) is
+cell_low from (room ∷ rooms) local cell is = by_local (nat_eq room.0 local) (cell_low (from + room.1) rooms local cell) is
   where
     all : room_cells (room ∷ rooms) ≡ room.1 + room_cells rooms
     all = sum_by-cons (λ (r : Room). r.1) room rooms
 
-    by_local : (here : Bool) → (if here then Some from else first_cell (from + room.1) rooms local) ≡ Some cell → cell ≤ from + room_cells (room ∷ rooms)
-    by_local true is =
+    by_local : (here : Bool) → (first_cell (from + room.1) rooms local ≡ Some cell → cell ≤ from + room.1 + room_cells rooms) → (if here then Some from else first_cell (from + room.1) rooms local) ≡ Some cell → cell ≤ from + room_cells (room ∷ rooms)
+    by_local true later is =
         let same : from ≡ cell = same_some from cell is in
         omega (arith, same)
-    by_local false is =
-        let rest = cell_low (from + room.1) rooms local cell is in
+    by_local false later is =
+        let rest = later is in
         omega (arith, rest, all)
 
 -- ---- the plan
@@ -110,7 +110,7 @@ module _ (body : Body) (widths : Widths) where
     fill_in local =
         let from = or_first_low (first_cell 0 (passed body) local) (λ c e. first_low c local e) in
         let to = or_first_low (cell_of body widths local) (local_low local) in
-        ((omega (arith, from, frame), tt), (by_sign (fill_of body widths local).zero, tt), (omega (arith, to, frame), tt), tt)
+        ((omega (arith, from, frame), tt), ((by_sign (fill_of body widths local).zero, tt), ((omega (arith, to, frame), tt), tt)))
       where
         by_sign : (zero : Bool) → HasRanges (if zero then insns.Zx else insns.Sx)
         by_sign true = tt
