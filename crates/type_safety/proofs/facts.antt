@@ -8,6 +8,8 @@ pub mod ClassWays
 pub mod ReadRules
 -- a method that is read has few arguments
 pub mod ArgumentSlots
+-- each row of a switch has some of the bytes of its code
+pub mod RowReads
 -- a switch has at most as many rows as its code has bytes
 pub mod RowCounts
 -- the files of a set are read, and their code fits
@@ -40,5 +42,7 @@ pub mod NamedSpecial
 pub mod FewCounts
 -- a typed call of a constructor names a class that is no interface
 pub mod ConstructorCalls
+-- what each instruction names is there, and it counts little
+pub mod NamedOps
 -- all facts of a body of a set
 pub mod PhaseFacts

@@ -65,6 +65,7 @@ use Rattle.type_safety.proofs.facts.NamedMethods.{named_static_call, named_virtu
 use Rattle.type_safety.proofs.facts.NamedSpecial.{named_special}
 use Rattle.type_safety.proofs.facts.BodyReach.{body_reached}
 use Rattle.type_safety.proofs.facts.ConstructorCalls.{super_no_interface, made_class, constructs}
+use Rattle.type_safety.proofs.facts.NamedOps.{NamedAndFew, op_named}
 
 -- ---- the class of a body is no interface
 
@@ -79,13 +80,7 @@ no_initialiser : (o : Option (List ℕ)) → option_map_or (bytes_eq initialiser
 no_initialiser None e = refl
 no_initialiser (Some name) e = other_way initialiser_name name e
 
--- ---- numbers of the pool
-
-found_ok : {E : Type 0} (found : Option ℤ) (why : E) (number : ℤ) → ok_or found why ≡ Ok number → found ≡ Some number
-found_ok None why number e = cc
-found_ok (Some other) why number e = cc
-
--- ---- classes that are made
+-- ---- lists
 
 in_map : (ops : List (ℕ × Op)) (x : ℕ × Op) → Contains ops x → Contains (map (λ y. y.0) ops) x.0
 in_map [] x (k, within, is) = absurd (omega (arith, within))
@@ -99,139 +94,6 @@ all_both P Q (x ∷ xs) p q = ((p.0, q.0), all_both P Q xs p.1 q.1)
 module _ (world : World) (gathers : Gathers world.files None) (rank : ℕ → ℕ) (ranked : IsRanked world.files rank) (read : AllByRecursion IsRead world.files) (are : AreBodies world.files world.bodies) (links : Linking world.files None) where
   abbrev files : List ClassFile
   files = world.files
-
-  abbrev Made : TypeRef → Type 0
-  Made type = (class : ℕ) × (type ≡ class_type class) × IsConcrete world class
-
-  made_of : (dims : ℕ) (of : TypeBase) → dims ≡ 0 → may_be_made_of files of ≡ true → ((class : ℕ) → of ≡ base.Class class → IsClass files class) → Made (record { dims = dims; base = of })
-  made_of dims (base.Class class) zero_is e inside =
-      let both = and_parts (not (is_interface (flags_of files class))) (not (is_abstract (flags_of files class))) e in
-      (class, ap (λ (n : ℕ). record { dims = n; base = base.Class class }) zero_is, (inside class refl, not_true_is (is_interface (flags_of files class)) both.0, not_true_is (is_abstract (flags_of files class)) both.1))
-  made_of dims base.Byte zero_is e inside = absurd (let bad : false ≡ true = e in cc)
-  made_of dims base.Char zero_is e inside = absurd (let bad : false ≡ true = e in cc)
-  made_of dims base.Short zero_is e inside = absurd (let bad : false ≡ true = e in cc)
-  made_of dims base.Int zero_is e inside = absurd (let bad : false ≡ true = e in cc)
-  made_of dims base.Boolean zero_is e inside = absurd (let bad : false ≡ true = e in cc)
-
-  -- a type that is named passes the test that is asked of it
-  used_passes : (from : ℕ) (pool : Slots) (test : TypeRef → Bool) (index : ℕ) (type : TypeRef) → type_used files from pool test index ≡ Ok type → test type ≡ true
-  used_passes from pool test index type e =
-      let named =
-      then_ok
-      (λ name. and_then (λ type. and_then (λ _. where_passes (may_use_base files from type.base) Denied type) (where_passes (test type) WrongKind type)) (type_named files name))
-      (ok_or (class_name_at pool index) WrongKind) type e in
-      let typed = then_ok (λ type. and_then (λ _. where_passes (may_use_base files from type.base) Denied type) (where_passes (test type) WrongKind type)) (type_named files named.0) type named.2 in
-      let tested = then_ok (λ _. where_passes (may_use_base files from typed.0.base) Denied typed.0) (where_passes (test typed.0) WrongKind typed.0) type typed.2 in
-      let same : typed.0 ≡ type = passes_ok (may_use_base files from typed.0.base) Denied typed.0 type tested.2 in
-      ap test (sym same) ∙ (passed (test typed.0) WrongKind typed.0 tested.0 tested.1).0
-
-  -- so many dimensions of a type are counted, one at least
-  counted_within : (dims : ℕ) (type : TypeRef) → has_counted dims type ≡ true → (1 ≤ dims) × (dims ≤ type.dims)
-  counted_within dims type e = let both = and_parts (nat_le 1 dims) (nat_le dims type.dims) e in (leb-true 1 dims both.0, leb-true dims type.dims both.1)
-
-  named_new : (from : ℕ) (pool : Slots) (index : ℕ) (type : TypeRef) → type_used files from pool (may_be_made files) index ≡ Ok type → Made type
-  named_new from pool index type e =
-      let named =
-      then_ok
-      (λ name. and_then (λ type. and_then (λ _. where_passes (may_use_base files from type.base) Denied type) (where_passes (may_be_made files type) WrongKind type)) (type_named files name))
-      (ok_or (class_name_at pool index) WrongKind) type e in
-      let typed = then_ok (λ type. and_then (λ _. where_passes (may_use_base files from type.base) Denied type) (where_passes (may_be_made files type) WrongKind type)) (type_named files named.0) type named.2 in
-      let tested = then_ok (λ _. where_passes (may_use_base files from typed.0.base) Denied typed.0) (where_passes (may_be_made files typed.0) WrongKind typed.0) type typed.2 in
-      let same : typed.0 ≡ type = passes_ok (may_use_base files from typed.0.base) Denied typed.0 type tested.2 in
-      let made : may_be_made files type ≡ true = ap (may_be_made files) (sym same) ∙ (passed (may_be_made files typed.0) WrongKind typed.0 tested.0 tested.1).0 in
-      let both = and_parts (nat_eq type.dims 0) (may_be_made_of files type.base) made in
-      let inside = used_type files from pool (may_be_made files) index type e in
-      made_of type.dims type.base (eqb-true type.dims 0 both.0) both.1 (λ class is. of_class type.base inside.0 class is)
-    where
-      of_class : (of : TypeBase) → IsBaseType files of → (class : ℕ) → of ≡ base.Class class → IsClass files class
-      of_class of inside class is = subst (IsBaseType files) is inside
-
-  -- ---- instructions
-
-  -- what an instruction names is there, and it counts little
-  abbrev NamedAndFew : ℕ → Op → Type 0
-  NamedAndFew from found = Named world from found × HasFewCounts found
-
-  op_named : (from : ℕ) (pool : Slots) → is_interface (flags_of files from) ≡ false → EachEntry IntegerFits pool → (insn : Insn) (found : Op) → ((used : MethodUse) → found ≡ op.CallSpecial used → is_named_constructor used ≡ true → is_interface (flags_of files used.class) ≡ false)
-      → op_of files from pool insn ≡ Ok found → HasNumbers insn → HasRowsWithin 65535 insn → NamedAndFew from found
-  op_named from pool own_class entries insns.Nop found constructed e numbers switches = subst (NamedAndFew from) (same_op (op.Nop) found e) (tt, tt)
-  op_named from pool own_class entries insns.Null found constructed e numbers switches = subst (NamedAndFew from) (same_op (op.Const literal.Null) found e) (tt, tt)
-  op_named from pool own_class entries (insns.Push number) found constructed e numbers switches = subst (NamedAndFew from) (same_op (op.Const (literal.Int number)) found e) (numbers, tt)
-  op_named from pool own_class entries (insns.Load kind local) found constructed e numbers switches = subst (NamedAndFew from) (same_op (op.Load kind local) found e) (tt, tt)
-  op_named from pool own_class entries (insns.Store kind local) found constructed e numbers switches = subst (NamedAndFew from) (same_op (op.Store kind local) found e) (tt, tt)
-  op_named from pool own_class entries (insns.Inc local amount) found constructed e numbers switches = subst (NamedAndFew from) (same_op (op.Inc local amount) found e) (numbers, tt)
-  op_named from pool own_class entries (insns.Stack form) found constructed e numbers switches = subst (NamedAndFew from) (same_op (op.Stack form) found e) (tt, tt)
-  op_named from pool own_class entries (insns.Bin operation) found constructed e numbers switches = subst (NamedAndFew from) (same_op (op.Bin operation) found e) (tt, tt)
-  op_named from pool own_class entries insns.Neg found constructed e numbers switches = subst (NamedAndFew from) (same_op (op.Unary unary.Neg) found e) (tt, tt)
-  op_named from pool own_class entries (insns.Convert conv) found constructed e numbers switches = subst (NamedAndFew from) (same_op (op.Unary (unary.Convert conv)) found e) (tt, tt)
-  op_named from pool own_class entries (insns.If cond target) found constructed e numbers switches = subst (NamedAndFew from) (same_op (op.If cond target) found e) (tt, tt)
-  op_named from pool own_class entries (insns.IfCmp cond target) found constructed e numbers switches = subst (NamedAndFew from) (same_op (op.IfCmp cond target) found e) (tt, tt)
-  op_named from pool own_class entries (insns.IfRef cond target) found constructed e numbers switches = subst (NamedAndFew from) (same_op (op.IfRef cond target) found e) (tt, tt)
-  op_named from pool own_class entries (insns.Goto target) found constructed e numbers switches = subst (NamedAndFew from) (same_op (op.Goto target) found e) (tt, tt)
-  op_named from pool own_class entries (insns.Switch form default rows) found constructed e numbers switches = subst (NamedAndFew from) (same_op (op.Switch form default rows) found e) (switch_fits form rows numbers, omega (arith, switches))
-  op_named from pool own_class entries (insns.Return kind) found constructed e numbers switches = subst (NamedAndFew from) (same_op (op.Return kind) found e) (tt, tt)
-  op_named from pool own_class entries insns.ArrayLength found constructed e numbers switches = subst (NamedAndFew from) (same_op (op.ArrayLength) found e) (tt, tt)
-  op_named from pool own_class entries (insns.ArrayLoad kind) found constructed e numbers switches = subst (NamedAndFew from) (same_op (op.ArrayLoad kind) found e) (tt, tt)
-  op_named from pool own_class entries (insns.ArrayStore kind) found constructed e numbers switches = subst (NamedAndFew from) (same_op (op.ArrayStore kind) found e) (tt, tt)
-  op_named from pool own_class entries insns.Throw found constructed e numbers switches = subst (NamedAndFew from) (same_op (op.Throw) found e) (tt, tt)
-  op_named from pool own_class entries (insns.NewArray kind) found constructed e numbers switches = subst (NamedAndFew from) (same_op (op.NewArray (type_with 1 (element_of kind))) found e) (omega arith, tt)
-  op_named from pool own_class entries (insns.Ldc index) found constructed e numbers switches =
-      let made = then_ok (λ number. Ok (op.Const (literal.Int number))) (ok_or (integer_at pool index) WrongKind) found e in
-      subst (NamedAndFew from) (same_op (op.Const (literal.Int made.0)) found made.2) (integer_fits pool index made.0 entries (found_ok (integer_at pool index) WrongKind made.0 made.1), tt)
-  op_named from pool own_class entries (insns.GetStatic index) found constructed e numbers switches =
-      let made = then_ok (λ used. Ok (op.GetStatic used)) (field_used files from pool (read_of true) index) found e in
-      subst (NamedAndFew from) (same_op (op.GetStatic made.0) found made.2) (named_static world gathers rank ranked read from pool (read_of true) index made.0 refl made.1, tt)
-  op_named from pool own_class entries (insns.PutStatic index) found constructed e numbers switches =
-      let made = then_ok (λ used. Ok (op.PutStatic used)) (field_used files from pool (write_of true) index) found e in
-      subst (NamedAndFew from) (same_op (op.PutStatic made.0) found made.2) (named_static world gathers rank ranked read from pool (write_of true) index made.0 refl made.1, tt)
-  op_named from pool own_class entries (insns.GetField index) found constructed e numbers switches =
-      let made = then_ok (λ used. Ok (op.GetField used)) (field_used files from pool (read_of false) index) found e in
-      subst (NamedAndFew from) (same_op (op.GetField made.0) found made.2) (named_instance world gathers rank ranked read from pool (read_of false) index made.0 refl made.1, tt)
-  op_named from pool own_class entries (insns.PutField index) found constructed e numbers switches =
-      let made = then_ok (λ used. Ok (op.PutField used)) (field_used files from pool (write_of false) index) found e in
-      subst (NamedAndFew from) (same_op (op.PutField made.0) found made.2) (named_instance world gathers rank ranked read from pool (write_of false) index made.0 refl made.1, tt)
-  op_named from pool own_class entries (insns.CallVirtual index) found constructed e numbers switches =
-      let made = then_ok (λ used. Ok (op.CallVirtual used)) (virtual_call files from pool index) found e in
-      subst (NamedAndFew from) (same_op (op.CallVirtual made.0) found made.2) (
-        named_virtual world gathers rank ranked read are links from pool index made.0 made.1,
-        found_few files gathers rank ranked read from pool names_class_method (λ call. fits_call files false call && not (is_constructor call)) index made.0 made.1,
-      )
-  op_named from pool own_class entries (insns.CallSpecial index) found constructed e numbers switches =
-      let made = then_ok (λ used. Ok (op.CallSpecial used)) (special_call files from pool index) found e in
-      subst (NamedAndFew from) (same_op (op.CallSpecial made.0) found made.2) (
-        named_special world gathers rank ranked read are links from pool index made.0 own_class (constructed made.0 (sym (same_op (op.CallSpecial made.0) found made.2))) made.1,
-        special_few files gathers rank ranked read from pool names_method (λ call. fits_call files false call && fits_special files from call) index made.0 made.1,
-      )
-  op_named from pool own_class entries (insns.CallStatic index) found constructed e numbers switches =
-      let made = then_ok (λ used. Ok (op.CallStatic used)) (static_call files from pool index) found e in
-      subst (NamedAndFew from) (same_op (op.CallStatic made.0) found made.2) (
-        named_static_call world gathers rank ranked read are links from pool index made.0 made.1,
-        found_few files gathers rank ranked read from pool names_method (λ call. fits_call files true call && not (is_constructor call)) index made.0 made.1,
-      )
-  op_named from pool own_class entries (insns.CallInterface index count) found constructed e numbers switches =
-      let made = then_ok (λ used. Ok (op.CallInterface used)) (interface_call files from pool count index) found e in
-      subst (NamedAndFew from) (same_op (op.CallInterface made.0) found made.2) (
-        named_interface world gathers rank ranked read are links from pool count index made.0 made.1,
-        found_few files gathers rank ranked read from pool names_interface_method (λ call. fits_call files false call && (not (is_constructor call) && nat_eq count (argument_places call.type))) index made.0 made.1,
-      )
-  op_named from pool own_class entries (insns.New index) found constructed e numbers switches =
-      let made = then_ok (λ type. Ok (op.New type)) (type_used files from pool (may_be_made files) index) found e in
-      subst (NamedAndFew from) (same_op (op.New made.0) found made.2) (named_new from pool index made.0 made.1, tt)
-  op_named from pool own_class entries (insns.NewRefArray index) found constructed e numbers switches =
-      let made = then_ok (λ type. Ok (op.NewArray (array_of type))) (type_used files from pool may_be_element index) found e in
-      subst (NamedAndFew from) (same_op (op.NewArray (array_of made.0)) found made.2) (omega arith, tt)
-  op_named from pool own_class entries (insns.CheckCast index) found constructed e numbers switches =
-      let made = then_ok (λ type. Ok (op.CheckCast type)) (type_used files from pool any_type index) found e in
-      subst (NamedAndFew from) (same_op (op.CheckCast made.0) found made.2) (tt, tt)
-  op_named from pool own_class entries (insns.InstanceOf index) found constructed e numbers switches =
-      let made = then_ok (λ type. Ok (op.InstanceOf type)) (type_used files from pool any_type index) found e in
-      subst (NamedAndFew from) (same_op (op.InstanceOf made.0) found made.2) (tt, tt)
-  op_named from pool own_class entries (insns.MultiArray index dims) found constructed e numbers switches =
-      let made = then_ok (λ type. Ok (op.MultiArray type dims)) (type_used files from pool (has_counted dims) index) found e in
-      let counted = counted_within dims made.0 (used_passes from pool (has_counted dims) index made.0 made.1) in
-      subst (NamedAndFew from) (same_op (op.MultiArray made.0 dims) found made.2) (counted, omega (arith, counted.1, type_few files from pool (has_counted dims) index made.0 made.1))
-
-  -- ---- bodies
 
   module _ (tables : Tables) (right : AllByRecursion (λ body. IsRight files body (tables (method_of body))) world.bodies) (body : Body) (there : Contains world.bodies body) where
     of : IsBodyOf files world.bodies are body
@@ -295,7 +157,7 @@ module _ (world : World) (gathers : Gathers world.files None) (rank : ℕ → �
         let made = made_class class (op_at body.ops pc) e in
         elim (made_or_nop pc (op.New made.0) made.1) [
           | inl insn ↦
-              let named = (op_named of.coded.class of.coded.file.pool own_class entries insn.insn (op.New made.0) (λ used other. absurd (never made.0 used other)) insn.is insn.numbers insn.switches).0 in
+              let named = (op_named world gathers rank ranked read are links of.coded.class of.coded.file.pool own_class entries insn.insn (op.New made.0) (λ used other. absurd (never made.0 used other)) insn.is insn.numbers insn.switches).0 in
               let same : named.0 ≡ class = same_class named.0 class (sym (ap (λ (t : TypeRef). t.base) named.1) ∙ made.2) in
               ap (λ (c : ℕ). is_interface (flags_of files c)) (sym same) ∙ named.2.1
           | inr nop ↦ absurd (no_nop made.0 nop)
@@ -333,14 +195,14 @@ module _ (world : World) (gathers : Gathers world.files None) (rank : ℕ → �
             ap (λ (c : ℕ). is_interface (flags_of files c)) (eqb-true used.class upper e)
             ∙ super_no_interface files gathers of.coded.class upper of.stands.own of.coded.file of.stands.file (ap (superclass_of files) (sym of.is.class) ∙ is)
 
-    named_and_few : (pc : ℕ) (instruction : Op) → op_at body.ops pc ≡ Some instruction → NamedAndFew body.class instruction
+    named_and_few : (pc : ℕ) (instruction : Op) → op_at body.ops pc ≡ Some instruction → NamedAndFew world body.class instruction
     named_and_few pc instruction at =
         elim (made_or_nop pc instruction at) [
           | inl made ↦
-              subst (λ (c : ℕ). NamedAndFew c instruction) (sym of.is.class)
-              (op_named of.coded.class of.coded.file.pool own_class entries made.insn instruction
+              subst (λ (c : ℕ). NamedAndFew world c instruction) (sym of.is.class)
+              (op_named world gathers rank ranked read are links of.coded.class of.coded.file.pool own_class entries made.insn instruction
               (λ used same. constructed pc used (at ∙ ap (λ (o : Op). Some o) same) (subst (IsMade pc) same made)) made.is made.numbers made.switches)
-          | inr nop ↦ subst (NamedAndFew body.class) (sym nop) (tt, tt)
+          | inr nop ↦ subst (NamedAndFew world body.class) (sym nop) (tt, tt)
         ]
 
     body_facts : BodyFacts world body
