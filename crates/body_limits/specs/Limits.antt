@@ -45,13 +45,15 @@ pub record KeepsImageLimits (setting : Setting) (body : Body) : Type 0 where
   pub plan : plan_for setting body ≡ plan_of body (table_for setting body) (plan_for setting body).narrow
   -- with the four cells of its header its frame has at most 32,767 cells
   pub frame : (plan_for setting body).body ≤ 32763
-  -- the ids of types and methods, which begin at 32, and the numbers of selectors fit two bytes
+  -- the ids of types, which begin at 32, fit two bytes
   pub types : length setting.numbering.types < 65504
+  -- so do the ids of methods, which begin there too
   pub methods : length setting.numbering.methods < 65504
+  -- the numbers of selectors fit two bytes
   pub selectors : length setting.numbering.selectors < 65536
   -- so do the places of fields and statics
   pub places : AllByRecursion (λ (field : FieldPlace). field.place < 65536) setting.numbering.fields
-  -- the code is no longer than code may be
+  -- the code has at most 65,535 bytes
   pub code : length (code_of (source_for setting body)) ≤ 65535
 
 -- where the image of a body of such a set keeps to its limits, the numbers of the body's machine instructions are of
