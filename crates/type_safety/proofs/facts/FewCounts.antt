@@ -1,6 +1,6 @@
 -- The counts of the instructions of a set are small: the arguments of a call, the rows of a switch, and the dimensions of
 -- an array that is made.
-use Rattle.std.proofs.Common.{◌≡◌, inl, inr, ℕ, ◌+◌, ◌<◌, ◌≤◌, Bool, true, false, List, length, slice_get, Option, Some, None, Ok, refl, sym, ap, subst, ◌∙◌, arith}
+use Rattle.std.proofs.Common.{◌≡◌, inl, inr, ℕ, ◌<◌, ◌≤◌, Bool, true, false, List, length, slice_get, Some, None, Ok, ap, subst, ◌∙◌, arith}
 use Rattle.std.specs.Prelude.{if◌then◌else◌}
 use Rattle.std.specs.List.{AllByRecursion}
 use Rattle.std.specs.Option.{ok_or}
@@ -9,7 +9,6 @@ use Rattle.class_pool.specs.declared.descriptor.Descriptor.{Descriptor}
 use Rattle.class_pool.specs.declared.descriptor.Kind.{Kind}
 use Rattle.class_pool.specs.declared.descriptor.Kind.TheVariants.{Array}
 use Rattle.class_pool.specs.declared.types.MemberId.{MemberId}
-use Rattle.class_pool.specs.declared.types.TypeBase.{TypeBase}
 use Rattle.class_pool.specs.declared.types.TypeBase.TheVariants as base
 use Rattle.class_pool.specs.declared.types.TypeRef.{TypeRef}
 use Rattle.class_pool.specs.Pool.{Slots, utf8_at, class_name_at}
@@ -26,8 +25,8 @@ use Rattle.class_tree.specs.Members.{Declaration, methods_of}
 use Rattle.class_tree.specs.Tree.{Gathers}
 use Rattle.class_tree.proofs.ancestors.Superclasses.{IsRanked}
 use Rattle.jvm_model.specs.declared.refusal.Cause.TheVariants.{Unresolved, WrongKind, Denied}
-use Rattle.jvm_model.specs.Resolution.{Resolved, and_then, where_passes, type_with, class_named, base_named, kind_named, type_named, type_used, may_use_base, MethodName}
-use Rattle.jvm_model.specs.MethodUses.{Call, use_of, call_used, special_target, special_use, special_call}
+use Rattle.jvm_model.specs.Resolution.{and_then, where_passes, type_with, class_named, base_named, kind_named, type_named, type_used, may_use_base, MethodName}
+use Rattle.jvm_model.specs.MethodUses.{Call, use_of, call_used, special_target, special_use}
 use Rattle.jvm_model.proofs.bodies.BodyNames.{then_ok, there_ok, passes_ok}
 use Rattle.type_safety.proofs.facts.CodeRead.{IsRead}
 use Rattle.type_safety.proofs.facts.ArgumentSlots.{arguments_few}

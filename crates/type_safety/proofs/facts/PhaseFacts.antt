@@ -1,68 +1,54 @@
 -- The phases of a set give what its bodies stand on.
-use Rattle.std.proofs.Common.{◌≡◌, ◌⊎◌, inl, inr, ℕ, ℤ, zero, suc, ◌+◌, ◌-◌, ◌≤◌, Bool, true, false, ◌&&◌, ◌||◌, not, nat_eq, nat_le, List, [], ◌∷◌, length, map, Option, Some, None, Ok, refl, sym, ap, subst, ◌∙◌, arith, eqb-true}
+use Rattle.std.proofs.Common.{◌≡◌, ◌⊎◌, inl, inr, ℕ, zero, suc, ◌+◌, ◌-◌, ◌≤◌, Bool, true, false, ◌&&◌, ◌||◌, not, nat_eq, List, [], ◌∷◌, length, map, Option, Some, None, Ok, refl, sym, ap, subst, ◌∙◌, arith, eqb-true}
 use Rattle.std.specs.Prelude.{if◌then◌else◌}
 use Rattle.std.specs.List.{AllByRecursion, Contains}
-use Rattle.std.specs.Option.{ok_or, option_map_or}
+use Rattle.std.specs.Option.{option_map_or}
 use Rattle.std.specs.Str.{bytes_eq}
-use Rattle.std.proofs.lemmas.Bool.{and_parts, leb-true}
 use Rattle.class_pool.specs.declared.descriptor.Descriptor.{Descriptor}
-use Rattle.class_pool.specs.declared.types.TypeBase.{TypeBase}
 use Rattle.class_pool.specs.declared.types.TypeBase.TheVariants as base
 use Rattle.class_pool.specs.declared.types.TypeRef.{TypeRef}
-use Rattle.class_pool.specs.Pool.{Slots, utf8_at, integer_at, class_name_at, EachEntry}
+use Rattle.class_pool.specs.Pool.{utf8_at, EachEntry}
 use Rattle.class_file.specs.declared.record.ClassFile.{ClassFile}
 use Rattle.class_file.specs.declared.record.CodeAttr.{CodeAttr}
 use Rattle.class_file.specs.Rules.{is_interface, is_abstract, is_public, is_static, is_static_method, is_named, is_initialiser as is_initialiser_head}
 use Rattle.class_file.specs.ReadingMembers.{head_in}
 use Rattle.class_code.specs.declared.insn.Insn.{Insn}
-use Rattle.class_code.specs.declared.insn.Insn.TheVariants as insns
 use Rattle.class_code.specs.Code.{Insns}
 use Rattle.class_code.specs.Flow.{code_ways}
 use Rattle.class_code.proofs.Numbers.{HasNumbers}
 use Rattle.code_reach.specs.Reached as reach
 use Rattle.body_form.specs.declared.body.Body.{Body}
-use Rattle.body_form.specs.declared.op.Literal.TheVariants as literal
 use Rattle.body_form.specs.declared.op.MethodUse.{MethodUse}
 use Rattle.body_form.specs.declared.op.Op.{Op}
 use Rattle.body_form.specs.declared.op.Op.TheVariants as op
-use Rattle.body_form.specs.declared.op.UnaryOp.TheVariants as unary
 use Rattle.body_form.specs.Flow.{IsStart}
-use Rattle.class_tree.specs.Set.{IsClass, flags_of}
-use Rattle.class_tree.specs.Subtypes.{class_type, array_of, IsBaseType}
+use Rattle.class_tree.specs.Set.{flags_of}
 use Rattle.class_tree.specs.Tree.{Gathers}
 use Rattle.class_tree.specs.DirectSupers.{superclass_of}
 use Rattle.class_tree.proofs.ancestors.Superclasses.{IsRanked, ranked as ranks_of}
-use Rattle.jvm_model.specs.declared.refusal.Cause.TheVariants.{WrongKind, Denied}
 use Rattle.jvm_model.specs.Bodies.{AreBodies, IsFamily, IsResolved, IsNop}
-use Rattle.jvm_model.specs.FieldUses.{field_used}
-use Rattle.jvm_model.specs.Instructions.{may_be_made_of, may_be_made, may_be_element, has_counted, any_type, element_of, read_of, write_of, op_of}
+use Rattle.jvm_model.specs.Instructions.{op_of}
 use Rattle.jvm_model.specs.Linking.{Linking}
 use Rattle.jvm_model.specs.ProgramOf.{insns_in}
-use Rattle.jvm_model.specs.MethodUses.{initialiser_name, is_constructor, fits_call, fits_special, argument_places, names_class_method, names_interface_method, names_method, virtual_call, static_call, interface_call, special_call}
-use Rattle.jvm_model.specs.Resolution.{and_then, where_passes, type_with, type_named, type_used, may_use_base}
+use Rattle.jvm_model.specs.MethodUses.{initialiser_name}
 use Rattle.jvm_model.specs.TypesRight.{IsRight}
 use Rattle.jvm_model.specs.TypesRules.{op_at, makes_class}
-use Rattle.jvm_model.proofs.bodies.BodyNames.{then_ok, passes_ok, used_type}
 use Rattle.typed_machine.specs.TypedWorld.{World}
-use Rattle.type_safety.specs.Facts.{IsConcrete, Named, is_named_constructor, BodyFacts}
+use Rattle.type_safety.specs.Facts.{is_named_constructor, BodyFacts}
 use Rattle.type_safety.specs.Fitting.{Tables}
 use Rattle.type_safety.specs.Safety.{IsTyped, PhasesGiveFacts, method_of}
-use Rattle.type_safety.proofs.fitting.SetLists.{none_some, same_some, all_at, all_contained, not_true_is, each_back}
+use Rattle.type_safety.proofs.fitting.SetLists.{none_some, same_some, all_at, all_contained, each_back}
 use Rattle.type_safety.proofs.facts.ReadRules.{MethodRules, HasCode}
 use Rattle.type_safety.proofs.facts.ArgumentSlots.{arguments_few, receiver_counted, static_by_flags}
 use Rattle.type_safety.proofs.facts.RowCounts.{HasRowsWithin, rows_within}
-use Rattle.type_safety.proofs.facts.FewCounts.{HasFewCounts, type_few, found_few, special_few}
+use Rattle.type_safety.proofs.facts.FewCounts.{HasFewCounts}
 use Rattle.type_safety.proofs.facts.CodeRead.{FitsMethod, IsRead, files_read}
-use Rattle.type_safety.proofs.facts.PoolNumbers.{IntegerFits, integer_fits}
+use Rattle.type_safety.proofs.facts.PoolNumbers.{IntegerFits}
 use Rattle.type_safety.proofs.facts.CodedBodies.{IsBodyOf, body_of}
-use Rattle.type_safety.proofs.facts.SwitchKeys.{switch_fits}
-use Rattle.type_safety.proofs.facts.Control.{same_op, op_there}
+use Rattle.type_safety.proofs.facts.Control.{op_there}
 use Rattle.type_safety.proofs.facts.CodeStanding.{code_of, stands_of_set, stays_within}
 use Rattle.type_safety.proofs.facts.Declared.{file_at}
-use Rattle.type_safety.proofs.facts.NamedFields.{passed, named_static, named_instance}
 use Rattle.type_safety.proofs.facts.RunMethods.{own_file, other_way}
-use Rattle.type_safety.proofs.facts.NamedMethods.{named_static_call, named_virtual, named_interface}
-use Rattle.type_safety.proofs.facts.NamedSpecial.{named_special}
 use Rattle.type_safety.proofs.facts.BodyReach.{body_reached}
 use Rattle.type_safety.proofs.facts.ConstructorCalls.{super_no_interface, made_class, constructs}
 use Rattle.type_safety.proofs.facts.NamedOps.{NamedAndFew, op_named}

@@ -1,17 +1,15 @@
 -- A switch that is read has at most as many rows as its code has bytes.
-use Rattle.std.proofs.Common.{◌≡◌, ℕ, ℤ, zero, suc, pos, ◌+◌, ◌-◌, ◌<◌, ◌≤◌, Bool, true, false, cond, List, [], ◌∷◌, length, drop, take, Option, Some, None, Result, Ok, Err, refl, subst, arith, length-drop}
+use Rattle.std.proofs.Common.{ℕ, ℤ, pos, ◌+◌, ◌-◌, ◌≤◌, Bool, true, false, cond, List, [], ◌∷◌, length, drop, take, Option, Some, None, Result, Ok, Err, subst, arith, length-drop}
 use Rattle.std.specs.Prelude.{◌==◌, ◌||◌, nat_le, nat_lt}
 use Rattle.std.specs.List.{AllByRecursion}
 use Rattle.std.specs.Int.{w64, cast_unsigned}
 use Rattle.std.specs.Int.Signed.{lt_z}
-use Rattle.std.proofs.lemmas.Bool.{ltb-false}
-use Rattle.byte_read.specs.Reading.{◌>>=◌, number_at, slice_at as bytes_at}
+use Rattle.byte_read.specs.Reading.{◌>>=◌, slice_at as bytes_at}
 use Rattle.cell_num.specs.declared.arithmetic.BinOp.{BinOp}
-use Rattle.insn_form.specs.declared.SwitchRow.{SwitchRow}
 use Rattle.class_code.specs.declared.insn.Insn.{Insn}
 use Rattle.class_code.specs.declared.insn.Insn.TheVariants.{Switch}
-use Rattle.class_code.specs.Operands.{u1_at, u2_at, u4_at, i1_at, i2_at, i4_at, slice_at, target_at, far_target_at}
-use Rattle.class_code.specs.Table.{Prefix, is_within, constant, load, array_load, store, array_store, operation, binary, increment, math, conversion, jump, branch, are_zero, padding_at, table_rows, span, tableswitch, is_above, lookup_row, lookup_rows, lookupswitch, control, call_interface, member_insn, member, array_kind, new_array, class_insn, object, wide_increment, widened, wide, multi_array, goto_w, extended, by_opcode, insn_at}
+use Rattle.class_code.specs.Operands.{u1_at, u2_at, i1_at, i2_at, i4_at, target_at, far_target_at}
+use Rattle.class_code.specs.Table.{Prefix, is_within, constant, load, array_load, store, array_store, operation, binary, increment, math, conversion, jump, branch, are_zero, padding_at, table_rows, span, tableswitch, lookup_rows, lookupswitch, control, call_interface, member_insn, member, array_kind, new_array, class_insn, object, wide_increment, widened, wide, multi_array, goto_w, extended, by_opcode, insn_at}
 use Rattle.class_code.specs.Code.{Insns, AreIn}
 use Rattle.class_code.proofs.Shorter.{insn_at-shorter}
 use Rattle.type_safety.proofs.facts.RowReads.{Sure, sure-then, either, LeavesFewer, i4_fewer, far_fewer, RowsOf, table_rows_few, lookup_rows_few}

@@ -1,19 +1,11 @@
 -- Each row of a switch has some of the bytes of its code.
-use Rattle.std.proofs.Common.{◌≡◌, ℕ, ℤ, zero, suc, pos, ◌+◌, ◌-◌, ◌<◌, ◌≤◌, Bool, true, false, cond, List, [], ◌∷◌, length, drop, take, Option, Some, None, Result, Ok, Err, refl, subst, arith, length-drop}
-use Rattle.std.specs.Prelude.{◌==◌, ◌||◌, nat_le, nat_lt}
-use Rattle.std.specs.List.{AllByRecursion}
-use Rattle.std.specs.Int.{w64, cast_unsigned}
-use Rattle.std.specs.Int.Signed.{lt_z}
+use Rattle.std.proofs.Common.{◌≡◌, ℕ, ℤ, zero, suc, ◌+◌, ◌<◌, ◌≤◌, Bool, true, false, cond, List, length, drop, Option, Some, Result, Ok, Err, refl, arith, length-drop}
+use Rattle.std.specs.Prelude.{nat_lt}
 use Rattle.std.proofs.lemmas.Bool.{ltb-false}
-use Rattle.byte_read.specs.Reading.{◌>>=◌, number_at, slice_at as bytes_at}
-use Rattle.cell_num.specs.declared.arithmetic.BinOp.{BinOp}
+use Rattle.byte_read.specs.Reading.{◌>>=◌, number_at}
 use Rattle.insn_form.specs.declared.SwitchRow.{SwitchRow}
-use Rattle.class_code.specs.declared.insn.Insn.{Insn}
-use Rattle.class_code.specs.declared.insn.Insn.TheVariants.{Switch}
-use Rattle.class_code.specs.Operands.{u1_at, u2_at, u4_at, i1_at, i2_at, i4_at, slice_at, target_at, far_target_at}
-use Rattle.class_code.specs.Table.{Prefix, is_within, constant, load, array_load, store, array_store, operation, binary, increment, math, conversion, jump, branch, are_zero, padding_at, table_rows, span, tableswitch, is_above, lookup_row, lookup_rows, lookupswitch, control, call_interface, member_insn, member, array_kind, new_array, class_insn, object, wide_increment, widened, wide, multi_array, goto_w, extended, by_opcode, insn_at}
-use Rattle.class_code.specs.Code.{Insns, AreIn}
-use Rattle.class_code.proofs.Shorter.{insn_at-shorter}
+use Rattle.class_code.specs.Operands.{u4_at, i4_at, far_target_at}
+use Rattle.class_code.specs.Table.{table_rows, is_above, lookup_row, lookup_rows}
 
 -- ---- what is read of bytes
 
