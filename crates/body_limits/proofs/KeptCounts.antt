@@ -1,7 +1,6 @@
 -- What the instructions of each body count is little, and so are its parameters.
 use Rattle.std.proofs.Common.{◌≡◌, ℕ, [], ◌∷◌, Some}
-use Rattle.std.specs.List.{AllByRecursion, Contains}
-use Rattle.body_form.specs.declared.body.Body.{Body}
+use Rattle.std.specs.List.{AllByRecursion}
 use Rattle.body_form.specs.declared.op.Op.{Op}
 use Rattle.body_form.specs.declared.op.Op.TheVariants as op
 use Rattle.body_form.specs.Flow.{Ops}

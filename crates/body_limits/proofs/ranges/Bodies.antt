@@ -1,6 +1,6 @@
 -- The numbers of the machine instructions of a body are of their types where its image keeps to its limits.
-use Rattle.std.proofs.Common.{◌≡◌, ℕ, ◌^◌, ◌<◌, ◌≤◌, length, Some, sym, ap, subst, arith}
-use Rattle.std.specs.List.{Contains, flat_map}
+use Rattle.std.proofs.Common.{◌≡◌, ℕ, ◌^◌, ◌<◌, ◌≤◌, Some, sym, subst, arith}
+use Rattle.std.specs.List.{flat_map}
 use Rattle.body_form.specs.declared.body.Body.{Body}
 use Rattle.body_form.specs.declared.op.Op.{Op}
 use Rattle.jvm_model.specs.declared.plan.Plan.{Plan}

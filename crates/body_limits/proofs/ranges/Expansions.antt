@@ -1,6 +1,5 @@
 -- The numbers of the machine instructions of each family are of their types.
 use Rattle.std.proofs.Common.{ℕ, ◌^◌, ◌<◌, true, get_or, Option, arith}
-use Rattle.std.specs.List.{AllByRecursion}
 use Rattle.class_pool.specs.declared.descriptor.Kind.{Kind as DeclaredKind}
 use Rattle.class_pool.specs.declared.types.TypeBase.TheVariants as base
 use Rattle.image_instr.specs.declared.insn.MInsn.TheVariants as insns
@@ -8,7 +7,7 @@ use Rattle.body_form.specs.declared.op.Op.{Op}
 use Rattle.body_form.specs.declared.op.Op.TheVariants as op
 use Rattle.body_form.specs.declared.types.VType.TheVariants as known
 use Rattle.jvm_model.specs.WidthsShapes.{Point}
-use Rattle.jvm_model.specs.ImageExpansion.{Locals, Ids, alone, top_of, second_of, width_of, kind_in, element_of, extend, read_as, cut_to_one, write_as, is_boolean_array, read_element, is_small_element, call_itself, expanded}
+use Rattle.jvm_model.specs.ImageExpansion.{Locals, Ids, alone, top_of, second_of, width_of, kind_in, element_of, cut_to_one, write_as, is_boolean_array, is_small_element, call_itself, expanded}
 use Rattle.typed_machine.specs.TypedWorld.{World}
 use Rattle.type_safety.specs.Facts.{Named}
 use Rattle.type_safety.proofs.facts.FewCounts.{HasFewCounts}

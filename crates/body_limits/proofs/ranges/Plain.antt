@@ -20,7 +20,7 @@ use Rattle.image_instr.specs.Insn.{HasRanges}
 use Rattle.body_form.specs.declared.op.UnaryOp.{UnaryOp}
 use Rattle.body_form.specs.declared.op.UnaryOp.TheVariants as unary
 use Rattle.jvm_model.specs.WidthsSlots.{is_small}
-use Rattle.jvm_model.specs.ImageExpansion.{Emitted, alone, alone_where, is_one, is_two, top_of, second_of, width_of, kind_in, extend, read_as, cut_to_one, narrow_cell, write_as, some_refs, refs_in, cells_in, remove, copy, exchange, restack, conversion, unary_of, read_element, return_of}
+use Rattle.jvm_model.specs.ImageExpansion.{Emitted, alone, alone_where, is_one, is_two, top_of, second_of, kind_in, extend, read_as, cut_to_one, narrow_cell, write_as, some_refs, refs_in, cells_in, remove, copy, exchange, restack, conversion, unary_of, read_element, return_of}
 use Rattle.type_safety.proofs.fitting.SetLists.{all_joined}
 use Rattle.match_code.specs.Standing.{IsInRange}
 

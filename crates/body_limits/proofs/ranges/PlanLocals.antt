@@ -1,6 +1,6 @@
 -- The slots and cells of locals are within the frame of which the plan lays them out.
-use Rattle.std.proofs.Common.{◌≡◌, ℕ, zero, suc, ◌+◌, ◌^◌, ◌<◌, ◌≤◌, Bool, true, false, nat_eq, nat_lt, cond, if◌then◌else◌, List, [], ◌∷◌, ◌++◌, map, filter, length, slice_get, Option, Some, None, option_map, option_and_then, unwrap_or, refl, sym, ap, subst, ◌∙◌, arith}
-use Rattle.std.specs.List.{AllByRecursion, flat_map, position}
+use Rattle.std.proofs.Common.{◌≡◌, ℕ, ◌+◌, ◌^◌, ◌<◌, ◌≤◌, Bool, true, false, nat_eq, nat_lt, cond, if◌then◌else◌, List, [], ◌∷◌, ◌++◌, map, filter, slice_get, Option, Some, None, option_map, option_and_then, unwrap_or, refl, sym, ap, subst, ◌∙◌, arith}
+use Rattle.std.specs.List.{flat_map}
 use Rattle.std.specs.Option.{option_or, option_map_or}
 use Rattle.std.proofs.lemmas.Bool.{ltb-true}
 use Rattle.std.proofs.lemmas.List.Concat.{flat_map-cons}
@@ -9,16 +9,14 @@ use Rattle.std.proofs.lemmas.Option.{slice_get-map}
 use Rattle.insn_form.specs.declared.ValueKind.{ValueKind}
 use Rattle.insn_form.specs.declared.ValueKind.TheVariants as value_kind
 use Rattle.image_instr.specs.declared.insn.MInsn.TheVariants as insns
-use Rattle.image_instr.specs.declared.insn.Kind.TheVariants as kind
 use Rattle.image_instr.specs.Insn.{HasRanges}
 use Rattle.body_form.specs.declared.body.Body.{Body}
 use Rattle.jvm_model.specs.declared.entries.Entry.{Entry}
-use Rattle.jvm_model.specs.declared.plan.Fill.{Fill}
 use Rattle.jvm_model.specs.TypesRight.{Table}
-use Rattle.jvm_model.specs.WidthsShapes.{Widths, kind_of_width}
-use Rattle.jvm_model.specs.WidthsSlots.{Room, room_cells, first_cell, locals_of, reference_locals, slot_of, slot_count, passed, extended, stored, is_extended, cell_of, cell_count, fill_of}
+use Rattle.jvm_model.specs.WidthsShapes.{Widths}
+use Rattle.jvm_model.specs.WidthsSlots.{Room, room_cells, first_cell, locals_of, slot_of, slot_count, passed, extended, stored, is_extended, cell_of, cell_count, fill_of}
 use Rattle.jvm_model.specs.WidthsFrame.{plan_with, fill_insns}
-use Rattle.jvm_model.specs.ImageExpansion.{Emitted, Locals, alone, load, store}
+use Rattle.jvm_model.specs.ImageExpansion.{Locals, alone, load, store}
 use Rattle.jvm_model.specs.ImageEmission.{locals_by}
 use Rattle.type_safety.proofs.fitting.SetLists.{none_some, same_some}
 use Rattle.body_limits.proofs.ranges.Plain.{InRange, both}

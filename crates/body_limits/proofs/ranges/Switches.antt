@@ -1,5 +1,5 @@
 -- The numbers of a switch are of their types: its default, its keys, its targets, and how many rows it has.
-use Rattle.std.proofs.Common.{ℕ, pos, ◌^◌, ◌<◌, List, [], ◌∷◌, length, map, arith, FitsSigned, w32}
+use Rattle.std.proofs.Common.{ℕ, ◌^◌, ◌<◌, List, [], ◌∷◌, length, map, arith, FitsSigned, w32}
 use Rattle.std.specs.List.{AllByRecursion}
 use Rattle.std.proofs.lemmas.Int.{ints}
 use Rattle.insn_form.specs.declared.SwitchForm.{SwitchForm}
