@@ -6,6 +6,12 @@ pub mod PoolNumbers
 pub mod ClassWays
 -- what is read of a class file keeps the rules of its members
 pub mod ReadRules
+-- a method that is read has few arguments
+pub mod ArgumentSlots
+-- each row of a switch has some of the bytes of its code
+pub mod RowReads
+-- a switch has at most as many rows as its code has bytes
+pub mod RowCounts
 -- the files of a set are read, and their code fits
 pub mod CodeRead
 -- what a class declares by a name and a descriptor
@@ -32,7 +38,11 @@ pub mod FoundMethods
 pub mod NamedMethods
 -- the methods that invokespecial names
 pub mod NamedSpecial
+-- calls, switches and arrays of a set count little
+pub mod FewCounts
 -- a typed call of a constructor names a class that is no interface
 pub mod ConstructorCalls
+-- what each instruction names is there, and it counts little
+pub mod NamedOps
 -- all facts of a body of a set
 pub mod PhaseFacts

@@ -42,6 +42,7 @@ module _ (files : List ClassFile) (read : AllByRecursion IsRead files) where
     pub is : IsCode coded.code.code coded.insns
     pub rise : RiseFrom 0 coded.insns
     pub some : 0 < length coded.code.code
+    pub few : length coded.code.code < 65536
     pub rows : AllByRecursion (HandlerFits coded.insns (length coded.code.code)) coded.code.handlers
 
   same_list : (a b : Insns) (r : Result Insns CodeRefusal) → r ≡ Ok a → r ≡ Ok b → a ≡ b
@@ -56,7 +57,8 @@ module _ (files : List ClassFile) (read : AllByRecursion IsRead files) where
       record {
         is = code-found coded.code.code coded.insns is;
         rise = rises coded.code.code (insns_of 0 coded.code.code) coded.insns refl is;
-        some = rules.has_bytes coded.code stands.code;
+        some = (rules.has_bytes coded.code stands.code).0;
+        few = (rules.has_bytes coded.code stands.code).1;
         rows = subst (λ (l : Insns). AllByRecursion (HandlerFits l (length coded.code.code)) coded.code.handlers) (same_list fits.insns coded.insns (decoded coded.code.code) fits.is is) fits.rows;
       }
 

@@ -1,5 +1,5 @@
 -- The methods of the library: constructors, and the static methods of the console.
-use Rattle.std.proofs.Common.{◌≡◌, ◌⊎◌, inl, inr, ℕ, ◌-◌, ◌<◌, ◌≤◌, Bool, true, false, not, cond, nat_lt, nat_eq, List, [], ◌∷◌, map, slice_get, Option, Some, None, option_map, option_and_then, refl, sym, ap, ◌∙◌, arith, eqb-true, codes}
+use Rattle.std.proofs.Common.{◌≡◌, ◌⊎◌, inl, inr, ℕ, ◌-◌, ◌<◌, ◌≤◌, Bool, true, false, not, cond, nat_lt, nat_eq, List, [], ◌∷◌, length, map, slice_get, Option, Some, None, option_map, option_and_then, refl, sym, ap, ◌∙◌, arith, eqb-true, codes}
 use Rattle.std.specs.List.{AllByRecursion}
 use Rattle.std.specs.Option.{option_map_or}
 use Rattle.std.proofs.lemmas.Bool.{lt-ltb, le-ltb, ltb-true}
@@ -109,6 +109,19 @@ native_type native.Construct = refl
 native_type native.Write = refl
 native_type native.Read = refl
 native_type native.Print = refl
+
+-- a native takes one argument at most
+params_few : (n : Native) → length (params_of n) ≤ 1
+params_few native.Construct = omega arith
+params_few native.Write = omega arith
+params_few native.Read = omega arith
+params_few native.Print = omega arith
+
+pub native_few : (n : Native) (type : Descriptor) → method_of (descriptor_of n) ≡ Some type → length type.params ≤ 1
+native_few n type is =
+    let same : type ≡ typed (params_of n) (result_of n) = same_some type (typed (params_of n) (result_of n)) (sym is ∙ native_type n) in
+    let count = ap (λ (d : Descriptor). length d.params) same in
+    omega (arith, count, params_few n)
 
 on_object_is : (n : Native) (on_object : Bool) → is_static (native_flags n) ≡ not on_object → on_object ≡ is_construct n
 on_object_is native.Construct true e = refl

@@ -1,65 +1,57 @@
 -- The phases of a set give what its bodies stand on.
-use Rattle.std.proofs.Common.{◌≡◌, ◌⊎◌, inl, inr, ℕ, ℤ, zero, suc, ◌-◌, ◌≤◌, Bool, true, false, ◌&&◌, ◌||◌, not, nat_eq, nat_le, List, [], ◌∷◌, map, Option, Some, None, Ok, refl, sym, ap, subst, ◌∙◌, arith, eqb-true}
+use Rattle.std.proofs.Common.{◌≡◌, ◌⊎◌, inl, inr, ℕ, zero, suc, ◌+◌, ◌-◌, ◌≤◌, Bool, true, false, ◌&&◌, ◌||◌, not, nat_eq, List, [], ◌∷◌, length, map, Option, Some, None, Ok, refl, sym, ap, subst, ◌∙◌, arith, eqb-true}
+use Rattle.std.specs.Prelude.{if◌then◌else◌}
 use Rattle.std.specs.List.{AllByRecursion, Contains}
-use Rattle.std.specs.Option.{ok_or, option_map_or}
+use Rattle.std.specs.Option.{option_map_or}
 use Rattle.std.specs.Str.{bytes_eq}
-use Rattle.std.proofs.lemmas.Bool.{and_parts, leb-true}
-use Rattle.class_pool.specs.declared.types.TypeBase.{TypeBase}
+use Rattle.class_pool.specs.declared.descriptor.Descriptor.{Descriptor}
 use Rattle.class_pool.specs.declared.types.TypeBase.TheVariants as base
 use Rattle.class_pool.specs.declared.types.TypeRef.{TypeRef}
-use Rattle.class_pool.specs.Pool.{Slots, utf8_at, integer_at, class_name_at, EachEntry}
+use Rattle.class_pool.specs.Pool.{utf8_at, EachEntry}
 use Rattle.class_file.specs.declared.record.ClassFile.{ClassFile}
 use Rattle.class_file.specs.declared.record.CodeAttr.{CodeAttr}
-use Rattle.class_file.specs.Rules.{is_interface, is_abstract, is_public, is_named, is_initialiser as is_initialiser_head}
+use Rattle.class_file.specs.Rules.{is_interface, is_abstract, is_public, is_static, is_static_method, is_named, is_initialiser as is_initialiser_head}
 use Rattle.class_file.specs.ReadingMembers.{head_in}
 use Rattle.class_code.specs.declared.insn.Insn.{Insn}
-use Rattle.class_code.specs.declared.insn.Insn.TheVariants as insns
 use Rattle.class_code.specs.Code.{Insns}
 use Rattle.class_code.specs.Flow.{code_ways}
 use Rattle.class_code.proofs.Numbers.{HasNumbers}
 use Rattle.code_reach.specs.Reached as reach
 use Rattle.body_form.specs.declared.body.Body.{Body}
-use Rattle.body_form.specs.declared.op.Literal.TheVariants as literal
 use Rattle.body_form.specs.declared.op.MethodUse.{MethodUse}
 use Rattle.body_form.specs.declared.op.Op.{Op}
 use Rattle.body_form.specs.declared.op.Op.TheVariants as op
-use Rattle.body_form.specs.declared.op.UnaryOp.TheVariants as unary
 use Rattle.body_form.specs.Flow.{IsStart}
-use Rattle.class_tree.specs.Set.{IsClass, flags_of}
-use Rattle.class_tree.specs.Subtypes.{class_type, array_of, IsBaseType}
+use Rattle.class_tree.specs.Set.{flags_of}
 use Rattle.class_tree.specs.Tree.{Gathers}
 use Rattle.class_tree.specs.DirectSupers.{superclass_of}
 use Rattle.class_tree.proofs.ancestors.Superclasses.{IsRanked, ranked as ranks_of}
-use Rattle.jvm_model.specs.declared.refusal.Cause.TheVariants.{WrongKind, Denied}
 use Rattle.jvm_model.specs.Bodies.{AreBodies, IsFamily, IsResolved, IsNop}
-use Rattle.jvm_model.specs.FieldUses.{field_used}
-use Rattle.jvm_model.specs.Instructions.{may_be_made_of, may_be_made, may_be_element, has_counted, any_type, element_of, read_of, write_of, op_of}
+use Rattle.jvm_model.specs.Instructions.{op_of}
 use Rattle.jvm_model.specs.Linking.{Linking}
 use Rattle.jvm_model.specs.ProgramOf.{insns_in}
-use Rattle.jvm_model.specs.MethodUses.{initialiser_name, virtual_call, static_call, interface_call, special_call}
-use Rattle.jvm_model.specs.Resolution.{and_then, where_passes, type_with, type_named, type_used, may_use_base}
+use Rattle.jvm_model.specs.MethodUses.{initialiser_name}
 use Rattle.jvm_model.specs.TypesRight.{IsRight}
 use Rattle.jvm_model.specs.TypesRules.{op_at, makes_class}
-use Rattle.jvm_model.proofs.bodies.BodyNames.{then_ok, passes_ok, used_type}
 use Rattle.typed_machine.specs.TypedWorld.{World}
-use Rattle.type_safety.specs.Facts.{IsConcrete, Named, is_named_constructor, BodyFacts}
+use Rattle.type_safety.specs.Facts.{is_named_constructor, BodyFacts}
 use Rattle.type_safety.specs.Fitting.{Tables}
-use Rattle.type_safety.specs.Safety.{PhasesGiveFacts, method_of}
-use Rattle.type_safety.proofs.fitting.SetLists.{none_some, same_some, all_at, all_contained, not_true_is, each_back}
+use Rattle.type_safety.specs.Safety.{IsTyped, PhasesGiveFacts, method_of}
+use Rattle.type_safety.proofs.fitting.SetLists.{none_some, same_some, all_at, all_contained, each_back}
 use Rattle.type_safety.proofs.facts.ReadRules.{MethodRules, HasCode}
+use Rattle.type_safety.proofs.facts.ArgumentSlots.{arguments_few, receiver_counted, static_by_flags}
+use Rattle.type_safety.proofs.facts.RowCounts.{HasRowsWithin, rows_within}
+use Rattle.type_safety.proofs.facts.FewCounts.{HasFewCounts}
 use Rattle.type_safety.proofs.facts.CodeRead.{FitsMethod, IsRead, files_read}
-use Rattle.type_safety.proofs.facts.PoolNumbers.{IntegerFits, integer_fits}
+use Rattle.type_safety.proofs.facts.PoolNumbers.{IntegerFits}
 use Rattle.type_safety.proofs.facts.CodedBodies.{IsBodyOf, body_of}
-use Rattle.type_safety.proofs.facts.SwitchKeys.{switch_fits}
-use Rattle.type_safety.proofs.facts.Control.{same_op, op_there}
-use Rattle.type_safety.proofs.facts.CodeStanding.{stands_of_set, stays_within}
+use Rattle.type_safety.proofs.facts.Control.{op_there}
+use Rattle.type_safety.proofs.facts.CodeStanding.{code_of, stands_of_set, stays_within}
 use Rattle.type_safety.proofs.facts.Declared.{file_at}
-use Rattle.type_safety.proofs.facts.NamedFields.{passed, named_static, named_instance}
 use Rattle.type_safety.proofs.facts.RunMethods.{own_file, other_way}
-use Rattle.type_safety.proofs.facts.NamedMethods.{named_static_call, named_virtual, named_interface}
-use Rattle.type_safety.proofs.facts.NamedSpecial.{named_special}
 use Rattle.type_safety.proofs.facts.BodyReach.{body_reached}
 use Rattle.type_safety.proofs.facts.ConstructorCalls.{super_no_interface, made_class, constructs}
+use Rattle.type_safety.proofs.facts.NamedOps.{NamedAndFew, op_named}
 
 -- ---- the class of a body is no interface
 
@@ -74,138 +66,20 @@ no_initialiser : (o : Option (List ℕ)) → option_map_or (bytes_eq initialiser
 no_initialiser None e = refl
 no_initialiser (Some name) e = other_way initialiser_name name e
 
--- ---- numbers of the pool
-
-found_ok : {E : Type 0} (found : Option ℤ) (why : E) (number : ℤ) → ok_or found why ≡ Ok number → found ≡ Some number
-found_ok None why number e = cc
-found_ok (Some other) why number e = cc
-
--- ---- classes that are made
+-- ---- lists
 
 in_map : (ops : List (ℕ × Op)) (x : ℕ × Op) → Contains ops x → Contains (map (λ y. y.0) ops) x.0
 in_map [] x (k, within, is) = absurd (omega (arith, within))
 in_map (y ∷ ops) x (zero, within, is) = (0, omega arith, ap (λ (z : ℕ × Op). z.0) is)
 in_map (y ∷ ops) x (suc k, within, is) = let rest = in_map ops x (k, omega (arith, within), is) in (suc rest.0, omega (arith, rest.1), rest.2)
 
+all_both : {X : Type 0} (P Q : X → Type 0) (xs : List X) → AllByRecursion P xs → AllByRecursion Q xs → AllByRecursion (λ x. P x × Q x) xs
+all_both P Q [] p q = tt
+all_both P Q (x ∷ xs) p q = ((p.0, q.0), all_both P Q xs p.1 q.1)
+
 module _ (world : World) (gathers : Gathers world.files None) (rank : ℕ → ℕ) (ranked : IsRanked world.files rank) (read : AllByRecursion IsRead world.files) (are : AreBodies world.files world.bodies) (links : Linking world.files None) where
   abbrev files : List ClassFile
   files = world.files
-
-  abbrev Made : TypeRef → Type 0
-  Made type = (class : ℕ) × (type ≡ class_type class) × IsConcrete world class
-
-  made_of : (dims : ℕ) (of : TypeBase) → dims ≡ 0 → may_be_made_of files of ≡ true → ((class : ℕ) → of ≡ base.Class class → IsClass files class) → Made (record { dims = dims; base = of })
-  made_of dims (base.Class class) zero_is e inside =
-      let both = and_parts (not (is_interface (flags_of files class))) (not (is_abstract (flags_of files class))) e in
-      (class, ap (λ (n : ℕ). record { dims = n; base = base.Class class }) zero_is, (inside class refl, not_true_is (is_interface (flags_of files class)) both.0, not_true_is (is_abstract (flags_of files class)) both.1))
-  made_of dims base.Byte zero_is e inside = absurd (let bad : false ≡ true = e in cc)
-  made_of dims base.Char zero_is e inside = absurd (let bad : false ≡ true = e in cc)
-  made_of dims base.Short zero_is e inside = absurd (let bad : false ≡ true = e in cc)
-  made_of dims base.Int zero_is e inside = absurd (let bad : false ≡ true = e in cc)
-  made_of dims base.Boolean zero_is e inside = absurd (let bad : false ≡ true = e in cc)
-
-  -- a type that is named passes the test that is asked of it
-  used_passes : (from : ℕ) (pool : Slots) (test : TypeRef → Bool) (index : ℕ) (type : TypeRef) → type_used files from pool test index ≡ Ok type → test type ≡ true
-  used_passes from pool test index type e =
-      let named =
-      then_ok
-      (λ name. and_then (λ type. and_then (λ _. where_passes (may_use_base files from type.base) Denied type) (where_passes (test type) WrongKind type)) (type_named files name))
-      (ok_or (class_name_at pool index) WrongKind) type e in
-      let typed = then_ok (λ type. and_then (λ _. where_passes (may_use_base files from type.base) Denied type) (where_passes (test type) WrongKind type)) (type_named files named.0) type named.2 in
-      let tested = then_ok (λ _. where_passes (may_use_base files from typed.0.base) Denied typed.0) (where_passes (test typed.0) WrongKind typed.0) type typed.2 in
-      let same : typed.0 ≡ type = passes_ok (may_use_base files from typed.0.base) Denied typed.0 type tested.2 in
-      ap test (sym same) ∙ (passed (test typed.0) WrongKind typed.0 tested.0 tested.1).0
-
-  -- so many dimensions of a type are counted, one at least
-  counted_within : (dims : ℕ) (type : TypeRef) → has_counted dims type ≡ true → (1 ≤ dims) × (dims ≤ type.dims)
-  counted_within dims type e = let both = and_parts (nat_le 1 dims) (nat_le dims type.dims) e in (leb-true 1 dims both.0, leb-true dims type.dims both.1)
-
-  named_new : (from : ℕ) (pool : Slots) (index : ℕ) (type : TypeRef) → type_used files from pool (may_be_made files) index ≡ Ok type → Made type
-  named_new from pool index type e =
-      let named =
-      then_ok
-      (λ name. and_then (λ type. and_then (λ _. where_passes (may_use_base files from type.base) Denied type) (where_passes (may_be_made files type) WrongKind type)) (type_named files name))
-      (ok_or (class_name_at pool index) WrongKind) type e in
-      let typed = then_ok (λ type. and_then (λ _. where_passes (may_use_base files from type.base) Denied type) (where_passes (may_be_made files type) WrongKind type)) (type_named files named.0) type named.2 in
-      let tested = then_ok (λ _. where_passes (may_use_base files from typed.0.base) Denied typed.0) (where_passes (may_be_made files typed.0) WrongKind typed.0) type typed.2 in
-      let same : typed.0 ≡ type = passes_ok (may_use_base files from typed.0.base) Denied typed.0 type tested.2 in
-      let made : may_be_made files type ≡ true = ap (may_be_made files) (sym same) ∙ (passed (may_be_made files typed.0) WrongKind typed.0 tested.0 tested.1).0 in
-      let both = and_parts (nat_eq type.dims 0) (may_be_made_of files type.base) made in
-      let inside = used_type files from pool (may_be_made files) index type e in
-      made_of type.dims type.base (eqb-true type.dims 0 both.0) both.1 (λ class is. of_class type.base inside.0 class is)
-    where
-      of_class : (of : TypeBase) → IsBaseType files of → (class : ℕ) → of ≡ base.Class class → IsClass files class
-      of_class of inside class is = subst (IsBaseType files) is inside
-
-  -- ---- instructions
-
-  op_named : (from : ℕ) (pool : Slots) → is_interface (flags_of files from) ≡ false → EachEntry IntegerFits pool → (insn : Insn) (found : Op) → ((used : MethodUse) → found ≡ op.CallSpecial used → is_named_constructor used ≡ true → is_interface (flags_of files used.class) ≡ false)
-      → op_of files from pool insn ≡ Ok found → HasNumbers insn → Named world from found
-  op_named from pool own_class entries insns.Nop found constructed e numbers = subst (Named world from) (same_op (op.Nop) found e) tt
-  op_named from pool own_class entries insns.Null found constructed e numbers = subst (Named world from) (same_op (op.Const literal.Null) found e) tt
-  op_named from pool own_class entries (insns.Push number) found constructed e numbers = subst (Named world from) (same_op (op.Const (literal.Int number)) found e) numbers
-  op_named from pool own_class entries (insns.Load kind local) found constructed e numbers = subst (Named world from) (same_op (op.Load kind local) found e) tt
-  op_named from pool own_class entries (insns.Store kind local) found constructed e numbers = subst (Named world from) (same_op (op.Store kind local) found e) tt
-  op_named from pool own_class entries (insns.Inc local amount) found constructed e numbers = subst (Named world from) (same_op (op.Inc local amount) found e) numbers
-  op_named from pool own_class entries (insns.Stack form) found constructed e numbers = subst (Named world from) (same_op (op.Stack form) found e) tt
-  op_named from pool own_class entries (insns.Bin operation) found constructed e numbers = subst (Named world from) (same_op (op.Bin operation) found e) tt
-  op_named from pool own_class entries insns.Neg found constructed e numbers = subst (Named world from) (same_op (op.Unary unary.Neg) found e) tt
-  op_named from pool own_class entries (insns.Convert conv) found constructed e numbers = subst (Named world from) (same_op (op.Unary (unary.Convert conv)) found e) tt
-  op_named from pool own_class entries (insns.If cond target) found constructed e numbers = subst (Named world from) (same_op (op.If cond target) found e) tt
-  op_named from pool own_class entries (insns.IfCmp cond target) found constructed e numbers = subst (Named world from) (same_op (op.IfCmp cond target) found e) tt
-  op_named from pool own_class entries (insns.IfRef cond target) found constructed e numbers = subst (Named world from) (same_op (op.IfRef cond target) found e) tt
-  op_named from pool own_class entries (insns.Goto target) found constructed e numbers = subst (Named world from) (same_op (op.Goto target) found e) tt
-  op_named from pool own_class entries (insns.Switch form default rows) found constructed e numbers = subst (Named world from) (same_op (op.Switch form default rows) found e) (switch_fits form rows numbers)
-  op_named from pool own_class entries (insns.Return kind) found constructed e numbers = subst (Named world from) (same_op (op.Return kind) found e) tt
-  op_named from pool own_class entries insns.ArrayLength found constructed e numbers = subst (Named world from) (same_op (op.ArrayLength) found e) tt
-  op_named from pool own_class entries (insns.ArrayLoad kind) found constructed e numbers = subst (Named world from) (same_op (op.ArrayLoad kind) found e) tt
-  op_named from pool own_class entries (insns.ArrayStore kind) found constructed e numbers = subst (Named world from) (same_op (op.ArrayStore kind) found e) tt
-  op_named from pool own_class entries insns.Throw found constructed e numbers = subst (Named world from) (same_op (op.Throw) found e) tt
-  op_named from pool own_class entries (insns.NewArray kind) found constructed e numbers = subst (Named world from) (same_op (op.NewArray (type_with 1 (element_of kind))) found e) (omega arith)
-  op_named from pool own_class entries (insns.Ldc index) found constructed e numbers =
-      let made = then_ok (λ number. Ok (op.Const (literal.Int number))) (ok_or (integer_at pool index) WrongKind) found e in
-      subst (Named world from) (same_op (op.Const (literal.Int made.0)) found made.2) (integer_fits pool index made.0 entries (found_ok (integer_at pool index) WrongKind made.0 made.1))
-  op_named from pool own_class entries (insns.GetStatic index) found constructed e numbers =
-      let made = then_ok (λ used. Ok (op.GetStatic used)) (field_used files from pool (read_of true) index) found e in
-      subst (Named world from) (same_op (op.GetStatic made.0) found made.2) (named_static world gathers rank ranked read from pool (read_of true) index made.0 refl made.1)
-  op_named from pool own_class entries (insns.PutStatic index) found constructed e numbers =
-      let made = then_ok (λ used. Ok (op.PutStatic used)) (field_used files from pool (write_of true) index) found e in
-      subst (Named world from) (same_op (op.PutStatic made.0) found made.2) (named_static world gathers rank ranked read from pool (write_of true) index made.0 refl made.1)
-  op_named from pool own_class entries (insns.GetField index) found constructed e numbers =
-      let made = then_ok (λ used. Ok (op.GetField used)) (field_used files from pool (read_of false) index) found e in
-      subst (Named world from) (same_op (op.GetField made.0) found made.2) (named_instance world gathers rank ranked read from pool (read_of false) index made.0 refl made.1)
-  op_named from pool own_class entries (insns.PutField index) found constructed e numbers =
-      let made = then_ok (λ used. Ok (op.PutField used)) (field_used files from pool (write_of false) index) found e in
-      subst (Named world from) (same_op (op.PutField made.0) found made.2) (named_instance world gathers rank ranked read from pool (write_of false) index made.0 refl made.1)
-  op_named from pool own_class entries (insns.CallVirtual index) found constructed e numbers =
-      let made = then_ok (λ used. Ok (op.CallVirtual used)) (virtual_call files from pool index) found e in
-      subst (Named world from) (same_op (op.CallVirtual made.0) found made.2) (named_virtual world gathers rank ranked read are links from pool index made.0 made.1)
-  op_named from pool own_class entries (insns.CallSpecial index) found constructed e numbers =
-      let made = then_ok (λ used. Ok (op.CallSpecial used)) (special_call files from pool index) found e in
-      subst (Named world from) (same_op (op.CallSpecial made.0) found made.2) (named_special world gathers rank ranked read are links from pool index made.0 own_class (constructed made.0 (sym (same_op (op.CallSpecial made.0) found made.2))) made.1)
-  op_named from pool own_class entries (insns.CallStatic index) found constructed e numbers =
-      let made = then_ok (λ used. Ok (op.CallStatic used)) (static_call files from pool index) found e in
-      subst (Named world from) (same_op (op.CallStatic made.0) found made.2) (named_static_call world gathers rank ranked read are links from pool index made.0 made.1)
-  op_named from pool own_class entries (insns.CallInterface index count) found constructed e numbers =
-      let made = then_ok (λ used. Ok (op.CallInterface used)) (interface_call files from pool count index) found e in
-      subst (Named world from) (same_op (op.CallInterface made.0) found made.2) (named_interface world gathers rank ranked read are links from pool count index made.0 made.1)
-  op_named from pool own_class entries (insns.New index) found constructed e numbers =
-      let made = then_ok (λ type. Ok (op.New type)) (type_used files from pool (may_be_made files) index) found e in
-      subst (Named world from) (same_op (op.New made.0) found made.2) (named_new from pool index made.0 made.1)
-  op_named from pool own_class entries (insns.NewRefArray index) found constructed e numbers =
-      let made = then_ok (λ type. Ok (op.NewArray (array_of type))) (type_used files from pool may_be_element index) found e in
-      subst (Named world from) (same_op (op.NewArray (array_of made.0)) found made.2) (omega arith)
-  op_named from pool own_class entries (insns.CheckCast index) found constructed e numbers =
-      let made = then_ok (λ type. Ok (op.CheckCast type)) (type_used files from pool any_type index) found e in
-      subst (Named world from) (same_op (op.CheckCast made.0) found made.2) tt
-  op_named from pool own_class entries (insns.InstanceOf index) found constructed e numbers =
-      let made = then_ok (λ type. Ok (op.InstanceOf type)) (type_used files from pool any_type index) found e in
-      subst (Named world from) (same_op (op.InstanceOf made.0) found made.2) tt
-  op_named from pool own_class entries (insns.MultiArray index dims) found constructed e numbers =
-      let made = then_ok (λ type. Ok (op.MultiArray type dims)) (type_used files from pool (has_counted dims) index) found e in
-      subst (Named world from) (same_op (op.MultiArray made.0 dims) found made.2) (counted_within dims made.0 (used_passes from pool (has_counted dims) index made.0 made.1))
-
-  -- ---- bodies
 
   module _ (tables : Tables) (right : AllByRecursion (λ body. IsRight files body (tables (method_of body))) world.bodies) (body : Body) (there : Contains world.bodies body) where
     of : IsBodyOf files world.bodies are body
@@ -236,21 +110,32 @@ module _ (world : World) (gathers : Gathers world.files None) (rank : ℕ → �
         let same : code.insns ≡ of.coded.insns = same_some code.insns of.coded.insns (sym (ap insns_in code.is) ∙ of.stands.insns) in
         subst (λ (l : Insns). AllByRecursion (λ x. HasNumbers x.1) l) same code.numbers
 
+    -- and its switches have as many rows as code has bytes
+    insn_switches : AllByRecursion (λ x. HasRowsWithin 65535 x.1) of.coded.insns
+    unfolding of
+    insn_switches =
+        let code = code_of files read of.coded of.stands in
+        rows_within 65535 0 of.coded.code.code of.coded.insns code.is.stand.0 [] (omega (arith, code.few)) code.is.stand.1
+
     -- an instruction of the body, with what is reached
     record IsMade (pc : ℕ) (instruction : Op) : Type 0 where
       insn : Insn
       reached : reach.IsReached (code_ways of.coded.code.handlers of.coded.insns) pc
       is : op_of files of.coded.class of.coded.file.pool insn ≡ Ok instruction
       numbers : HasNumbers insn
+      switches : HasRowsWithin 65535 insn
+
+    abbrev Reads : ℕ × Insn → Type 0
+    Reads x = HasNumbers x.1 × HasRowsWithin 65535 x.1
 
     made_or_nop : (pc : ℕ) (instruction : Op) → op_at body.ops pc ≡ Some instruction → IsMade pc instruction ⊎ (instruction ≡ op.Nop)
     made_or_nop pc instruction at =
-        let each = each_back (IsFamily files of.coded.class of.coded.file.pool (code_ways of.coded.code.handlers of.coded.insns)) (λ x. HasNumbers x.1) of.coded.insns body.ops insn_numbers of.is.ops (pc, instruction) (op_there body.ops pc instruction at) in
+        let each = each_back (IsFamily files of.coded.class of.coded.file.pool (code_ways of.coded.code.handlers of.coded.insns)) Reads of.coded.insns body.ops (all_both (λ x. HasNumbers x.1) (λ x. HasRowsWithin 65535 x.1) of.coded.insns insn_numbers insn_switches) of.is.ops (pc, instruction) (op_there body.ops pc instruction at) in
         by_family each.0 each.1 each.2
       where
-        by_family : (x : ℕ × Insn) → HasNumbers x.1 → IsFamily files of.coded.class of.coded.file.pool (code_ways of.coded.code.handlers of.coded.insns) x (pc, instruction) → IsMade pc instruction ⊎ (instruction ≡ op.Nop)
-        by_family x numbers (IsResolved same reached is) = inl (record { insn = x.1; numbers = numbers; reached = subst (reach.IsReached (code_ways of.coded.code.handlers of.coded.insns)) (sym same) reached; is = is })
-        by_family x numbers (IsNop same unreached is) = inr is
+        by_family : (x : ℕ × Insn) → Reads x → IsFamily files of.coded.class of.coded.file.pool (code_ways of.coded.code.handlers of.coded.insns) x (pc, instruction) → IsMade pc instruction ⊎ (instruction ≡ op.Nop)
+        by_family x reads (IsResolved same reached is) = inl (record { insn = x.1; numbers = reads.0; switches = reads.1; reached = subst (reach.IsReached (code_ways of.coded.code.handlers of.coded.insns)) (sym same) reached; is = is })
+        by_family x reads (IsNop same unreached is) = inr is
 
     -- what is made at a pc is an object of a class of which there are objects
     makes_concrete : (class pc : ℕ) → makes_class class (op_at body.ops pc) ≡ true → is_interface (flags_of files class) ≡ false
@@ -258,7 +143,7 @@ module _ (world : World) (gathers : Gathers world.files None) (rank : ℕ → �
         let made = made_class class (op_at body.ops pc) e in
         elim (made_or_nop pc (op.New made.0) made.1) [
           | inl insn ↦
-              let named = op_named of.coded.class of.coded.file.pool own_class entries insn.insn (op.New made.0) (λ used other. absurd (never made.0 used other)) insn.is insn.numbers in
+              let named = (op_named world gathers rank ranked read are links of.coded.class of.coded.file.pool own_class entries insn.insn (op.New made.0) (λ used other. absurd (never made.0 used other)) insn.is insn.numbers insn.switches).0 in
               let same : named.0 ≡ class = same_class named.0 class (sym (ap (λ (t : TypeRef). t.base) named.1) ∙ made.2) in
               ap (λ (c : ℕ). is_interface (flags_of files c)) (sym same) ∙ named.2.1
           | inr nop ↦ absurd (no_nop made.0 nop)
@@ -296,6 +181,16 @@ module _ (world : World) (gathers : Gathers world.files None) (rank : ℕ → �
             ap (λ (c : ℕ). is_interface (flags_of files c)) (eqb-true used.class upper e)
             ∙ super_no_interface files gathers of.coded.class upper of.stands.own of.coded.file of.stands.file (ap (superclass_of files) (sym of.is.class) ∙ is)
 
+    named_and_few : (pc : ℕ) (instruction : Op) → op_at body.ops pc ≡ Some instruction → NamedAndFew world body.class instruction
+    named_and_few pc instruction at =
+        elim (made_or_nop pc instruction at) [
+          | inl made ↦
+              subst (λ (c : ℕ). NamedAndFew world c instruction) (sym of.is.class)
+              (op_named world gathers rank ranked read are links of.coded.class of.coded.file.pool own_class entries made.insn instruction
+              (λ used same. constructed pc used (at ∙ ap (λ (o : Op). Some o) same) (subst (IsMade pc) same made)) made.is made.numbers made.switches)
+          | inr nop ↦ subst (NamedAndFew world body.class) (sym nop) (tt, tt)
+        ]
+
     body_facts : BodyFacts world body
     body_facts =
         let goes = stays_within files read of.coded body of.stands of.is in
@@ -304,16 +199,36 @@ module _ (world : World) (gathers : Gathers world.files None) (rank : ℕ → �
           first = goes.first;
           leads = goes.leads;
           handlers = goes.handlers;
-          named = λ pc instruction at. elim (made_or_nop pc instruction at) [
-            | inl made ↦
-                subst (λ (c : ℕ). Named world c instruction) (sym of.is.class)
-                (op_named of.coded.class of.coded.file.pool own_class entries made.insn instruction
-                (λ used same. constructed pc used (at ∙ ap (λ (o : Op). Some o) same) (subst (IsMade pc) same made)) made.is made.numbers)
-            | inr nop ↦ subst (Named world body.class) (sym nop) tt
-          ];
+          named = λ pc instruction at. (named_and_few pc instruction at).0;
         }
+
+    -- the object that its method is called on, where it has one, and its parameters
+    parameters_few : (if body.instance then 1 else 0) + length body.params ≤ 255
+    unfolding of
+    parameters_few =
+        let coded = of.coded in
+        let rules = all_at (MethodRules coded.file.flags coded.file.pool) coded.file.methods file_read.rules.methods coded.position coded.method of.stands.method in
+        let plain = no_initialiser (utf8_at coded.file.pool coded.method.name) of.stands.named in
+        let static : is_static_method coded.file.pool (head_in coded.method) ≡ is_static coded.method.flags = static_by_flags (is_static coded.method.flags) (is_initialiser_head coded.file.pool (head_in coded.method)) plain in
+        let type : rules.type ≡ record { params = body.params; result = body.result } = same_some rules.type (record { params = body.params; result = body.result }) (sym rules.typed ∙ of.is.type) in
+        let few = arguments_few (is_static_method coded.file.pool (head_in coded.method)) rules.type rules.slots in
+        receiver_counted (is_static coded.method.flags) body.instance (length body.params) of.is.instance
+        (subst (λ (b : Bool). (if b then 0 else 1) + length body.params ≤ 255) static
+        (subst (λ (d : Descriptor). (if is_static_method coded.file.pool (head_in coded.method) then 0 else 1) + length d.params ≤ 255) type few))
 
 pub phases_give_facts : PhasesGiveFacts
 phases_give_facts files world tables is body there =
     let rank = ranks_of world.files is.closed in
     body_facts world is.closed rank.0 rank.1 (files_read 0 files world.files is.records is.codes) is.bodies is.linked tables is.types body there
+
+-- what the instructions of a body count is little
+pub phases_keep_counts : (files : List (List ℕ)) (world : World) (tables : Tables) → IsTyped files world tables → (body : Body) → Contains world.bodies body → (pc : ℕ) (instruction : Op) → op_at body.ops pc ≡ Some instruction → HasFewCounts instruction
+phases_keep_counts files world tables is body there pc instruction at =
+    let rank = ranks_of world.files is.closed in
+    (named_and_few world is.closed rank.0 rank.1 (files_read 0 files world.files is.records is.codes) is.bodies is.linked tables is.types body there pc instruction at).1
+
+-- it has few parameters
+pub phases_keep_parameters : (files : List (List ℕ)) (world : World) (tables : Tables) → IsTyped files world tables → (body : Body) → Contains world.bodies body → (if body.instance then 1 else 0) + length body.params ≤ 255
+phases_keep_parameters files world tables is body there =
+    let rank = ranks_of world.files is.closed in
+    parameters_few world is.closed rank.0 rank.1 (files_read 0 files world.files is.records is.codes) is.bodies is.linked tables is.types body there

@@ -14,7 +14,7 @@ use Rattle.class_file.specs.declared.record.Member.{Member}
 use Rattle.class_file.specs.declared.refusal.ReadRefusal.{ReadRefusal}
 use Rattle.class_file.specs.declared.refusal.ReadRefusal.TheVariants.{BadDescriptor, BadShape, TooLarge, NotClass, TrailingBytes, Truncated}
 use Rattle.class_file.proofs.layout.Whole.{ways}
-use Rattle.class_file.specs.Rules.{is_abstract, is_code_size, is_named, has_one_access, fits_interface_field, fits_interface_method, fits_abstract, fits_constructor}
+use Rattle.class_file.specs.Rules.{is_abstract, is_code_size, is_named, has_one_access, fits_interface_field, fits_interface_method, fits_abstract, fits_constructor, fits_slots}
 use Rattle.class_file.specs.Reading.{u2_at, u4_at, counted_at, list_at}
 use Rattle.class_file.specs.ReadingMembers.{text_at, info_at, skip_all_at, handlers_at, code_bytes_at, code_parts, as_shape, code_at, method_attribute_at, method_attributes_at, head_in, described, field_type, method_type, head_at, field_head_at, method_head_at, field_attributes_at, field_at, method_at, fields_at, methods_at}
 use Rattle.class_file.specs.ReadingClass.{version_at, pool_at, class_head_at, members_at, body_of, class_of, capped}
@@ -27,8 +27,12 @@ abbrev pub HasCode : Bool → Option CodeAttr → Type 0
 HasCode true code = code ≡ None
 HasCode false code = (c : CodeAttr) × (code ≡ Some c)
 
+-- code has at least one byte, and fewer than 65,536
+abbrev pub IsCodeLength : ℕ → Type 0
+IsCodeLength size = (0 < size) × (size < 65536)
+
 abbrev pub HasBytes : Option CodeAttr → Type 0
-HasBytes code = (c : CodeAttr) → code ≡ Some c → 0 < length c.code
+HasBytes code = (c : CodeAttr) → code ≡ Some c → IsCodeLength (length c.code)
 
 pub record MethodRules (class_flags : ℕ) (pool : Slots) (m : Member) : Type 0 where
   pub access : has_one_access m.flags ≡ true
@@ -37,6 +41,7 @@ pub record MethodRules (class_flags : ℕ) (pool : Slots) (m : Member) : Type 0 
   pub type : Descriptor
   pub typed : option_and_then method_of (utf8_at pool m.descriptor) ≡ Some type
   pub constructor : fits_constructor pool (head_in m) type ≡ true
+  pub slots : fits_slots pool (head_in m) type ≡ true
   pub has_code : HasCode (is_abstract m.flags) m.code
   pub has_bytes : HasBytes m.code
 
@@ -83,16 +88,19 @@ slice_long size bytes x e =
     let first = ap (λ (y : List ℕ × List ℕ). length y.0) room.1 in
     omega (arith, long, taken, first)
 
-code_bytes_some : (bytes : List ℕ) (x : List ℕ × List ℕ) → code_bytes_at bytes ≡ Ok x → 0 < length x.0
+code_bytes_some : (bytes : List ℕ) (x : List ℕ × List ℕ) → code_bytes_at bytes ≡ Ok x → IsCodeLength (length x.0)
 unfolding code_bytes_at
 code_bytes_some bytes x e = bind_then (u4_at bytes) _ x e (λ size at e_x.
     chosen (is_code_size size.0) _ _ (Ok x) e_x
     (λ fits is.
-    let some : 0 < size.0 = ltb-true _ _ (and_parts _ _ fits).0 in
-    omega (arith, some, slice_long size.0 size.1 x is))
+    let both = and_parts _ _ fits in
+    let some : 0 < size.0 = ltb-true _ _ both.0 in
+    let few : size.0 < 65536 = ltb-true _ _ both.1 in
+    let long = slice_long size.0 size.1 x is in
+    (omega (arith, some, long), omega (arith, few, long)))
     (λ fails is. absurd (no_failure x BadShape (sym is))))
 
-code_some : (pool : Slots) (bytes : List ℕ) (x : CodeAttr) → code_parts pool bytes ≡ Ok x → 0 < length x.code
+code_some : (pool : Slots) (bytes : List ℕ) (x : CodeAttr) → code_parts pool bytes ≡ Ok x → IsCodeLength (length x.code)
 unfolding code_parts
 code_some pool bytes x e =
     bind_then (u2_at bytes) _ x e (λ max_stack at_stack e1.
@@ -101,26 +109,26 @@ code_some pool bytes x e =
     bind_then (handlers_at pool (length code.0) code.1) _ x e3 (λ handlers at_handlers e4.
     bind_then (skip_all_at pool handlers.1) _ x e4 (λ rest at_rest e5.
     let passed = passes _ _ x BadShape e5 in
-    subst (λ (c : CodeAttr). 0 < length c.code) passed.1 (code_bytes_some max_locals.1 code at_code))))))
+    subst (λ (c : CodeAttr). IsCodeLength (length c.code)) passed.1 (code_bytes_some max_locals.1 code at_code))))))
 
 shaped : {A : Type 0} (r : Result A ReadRefusal) (x : A) → as_shape r ≡ Ok x → r ≡ Ok x
 shaped (Ok y) x e = e
 shaped (Err why) x e = absurd (no_failure x BadShape (sym e))
 
-code_at_some : (pool : Slots) (bytes : List ℕ) (x : CodeAttr × List ℕ) → code_at pool bytes ≡ Ok x → 0 < length x.0.code
+code_at_some : (pool : Slots) (bytes : List ℕ) (x : CodeAttr × List ℕ) → code_at pool bytes ≡ Ok x → IsCodeLength (length x.0.code)
 unfolding code_at
 code_at_some pool bytes x e =
     bind_then (info_at bytes) _ x e (λ info at_info e1.
     bind_then (as_shape (code_parts pool info.0)) _ x e1 (λ code at_code e2.
-    subst (λ (y : CodeAttr × List ℕ). 0 < length y.0.code) (ok_is (code, info.1) x e2) (code_some pool info.0 code (shaped (code_parts pool info.0) code at_code))))
+    subst (λ (y : CodeAttr × List ℕ). IsCodeLength (length y.0.code)) (ok_is (code, info.1) x e2) (code_some pool info.0 code (shaped (code_parts pool info.0) code at_code))))
 
 -- ---- attributes of methods
 
 abbrev CodeSoFar : Bool → Option CodeAttr → Type 0
 CodeSoFar abstract found = (abstract ≡ true → found ≡ None) × HasBytes found
 
-one_sized : (c : CodeAttr) → 0 < length c.code → HasBytes (Some c)
-one_sized c some d e = let same : c ≡ d = cc in subst (λ (b : CodeAttr). 0 < length b.code) same some
+one_sized : (c : CodeAttr) → IsCodeLength (length c.code) → HasBytes (Some c)
+one_sized c some d e = let same : c ≡ d = cc in subst (λ (b : CodeAttr). IsCodeLength (length b.code)) same some
 
 attribute_keeps : (pool : Slots) (abstract : Bool) (found : Option CodeAttr) (bytes : List ℕ) (x : Option CodeAttr × List ℕ) → CodeSoFar abstract found → method_attribute_at pool abstract found bytes ≡ Ok x → CodeSoFar abstract x.0
 unfolding method_attribute_at
@@ -189,6 +197,7 @@ method_keeps class_flags pool earlier bytes x e =
       type = type;
       typed = ap (λ (h : _). option_and_then method_of (utf8_at pool h.descriptor)) (sym heads) ∙ described_is other.0.descriptor (option_and_then method_of (utf8_at pool other.0.descriptor)) type at_type;
       constructor = ap (λ (h : _). fits_constructor pool h type) (sym heads) ∙ types.0;
+      slots = ap (λ (h : _). fits_slots pool h type) (sym heads) ∙ (and_parts _ _ types.1).1;
       has_code = kept.0;
       has_bytes = kept.1;
     })))))

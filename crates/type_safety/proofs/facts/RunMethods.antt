@@ -172,7 +172,8 @@ module _ (files : List ClassFile) where
         is_there None e = absurd (let bad : false ≡ true = e in cc)
         is_there (Some code) e = (code, refl)
 
-    text_type : (o : Option (List ℕ)) (text : List ℕ) (type found : Descriptor) → unwrap_or o [] ≡ text → method_of text ≡ Some type → option_and_then method_of o ≡ Some found → found ≡ type
+    -- what a text says is the type that is found
+    pub text_type : (o : Option (List ℕ)) (text : List ℕ) (type found : Descriptor) → unwrap_or o [] ≡ text → method_of text ≡ Some type → option_and_then method_of o ≡ Some found → found ≡ type
     text_type None text type found is e f = none_some found f
     text_type (Some t) text type found is e f = same_some found type (sym f ∙ ap method_of is ∙ e)
 
