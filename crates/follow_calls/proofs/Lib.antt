@@ -14,3 +14,19 @@ pub mod StaticPlaces
 pub mod ReturnedValues
 -- a method that returns a reference
 pub mod ReturnedReferences
+-- how the kinds of parameters are passed
+pub mod ParameterKinds
+-- arguments that pass the tests of parameters
+pub mod TestedArguments
+-- locals in their order
+pub mod FirstLocals
+-- where the cells of arguments stand
+pub mod PassedCells
+-- arguments beside their parameters
+pub mod PairedArguments
+-- arguments as they stand on the stack
+pub mod TurnedArguments
+-- what parameters take of arguments
+pub mod TakenValues
+-- parameters as descriptors name them
+pub mod DeclaredParameters
