@@ -26,6 +26,10 @@ pub mod PassedCells
 pub mod PairedArguments
 -- arguments as they stand on the stack
 pub mod TurnedArguments
+-- what cuts the arguments of a call
+pub mod CutArguments
+-- a frame at its call
+pub mod CutCalls
 -- what parameters take of arguments
 pub mod TakenValues
 -- parameters as descriptors name them
