@@ -30,7 +30,27 @@ pub mod TurnedArguments
 pub mod CutArguments
 -- a frame at its call
 pub mod CutCalls
+-- what extends parameters
+pub mod FilledLocals
+-- the rooms of locals
+pub mod CalledRooms
 -- what parameters take of arguments
 pub mod TakenValues
+-- the parameters of a method as its first locals
+pub mod CalledLocals
+-- the references of a new frame
+pub mod CalledReferences
+-- what extends the parameters of a method that is called
+pub mod CalledFills
+-- the cells of a new frame
+pub mod CalledCells
+-- the whole numbers of a new frame
+pub mod CalledNumbers
+-- what a new frame takes of its caller
+pub mod TakenOperands
+-- a method that starts on the split machine
+pub mod EnteredBodies
+-- the start of a method by its types
+pub mod StartedBodies
 -- parameters as descriptors name them
 pub mod DeclaredParameters
