@@ -50,7 +50,15 @@ pub mod CalledNumbers
 pub mod TakenOperands
 -- a method that starts on the split machine
 pub mod EnteredBodies
+-- a caller that waits at its call
+pub mod WaitingCallers
 -- the start of a method by its types
 pub mod StartedBodies
 -- parameters as descriptors name them
 pub mod DeclaredParameters
+-- the ids of methods with code
+pub mod NativeIds
+-- the arguments of a call of a static method
+pub mod StaticArguments
+-- a static method that is called
+pub mod CalledStatics
