@@ -14,3 +14,51 @@ pub mod StaticPlaces
 pub mod ReturnedValues
 -- a method that returns a reference
 pub mod ReturnedReferences
+-- how the kinds of parameters are passed
+pub mod ParameterKinds
+-- arguments that pass the tests of parameters
+pub mod TestedArguments
+-- locals in their order
+pub mod FirstLocals
+-- where the cells of arguments stand
+pub mod PassedCells
+-- arguments beside their parameters
+pub mod PairedArguments
+-- arguments as they stand on the stack
+pub mod TurnedArguments
+-- what cuts the arguments of a call
+pub mod CutArguments
+-- a frame at its call
+pub mod CutCalls
+-- what extends parameters
+pub mod FilledLocals
+-- the rooms of locals
+pub mod CalledRooms
+-- what parameters take of arguments
+pub mod TakenValues
+-- the parameters of a method as its first locals
+pub mod CalledLocals
+-- the references of a new frame
+pub mod CalledReferences
+-- what extends the parameters of a method that is called
+pub mod CalledFills
+-- the cells of a new frame
+pub mod CalledCells
+-- the whole numbers of a new frame
+pub mod CalledNumbers
+-- what a new frame takes of its caller
+pub mod TakenOperands
+-- a method that starts on the split machine
+pub mod EnteredBodies
+-- a caller that waits at its call
+pub mod WaitingCallers
+-- the start of a method by its types
+pub mod StartedBodies
+-- parameters as descriptors name them
+pub mod DeclaredParameters
+-- the ids of methods with code
+pub mod NativeIds
+-- the arguments of a call of a static method
+pub mod StaticArguments
+-- a static method that is called
+pub mod CalledStatics
