@@ -12,3 +12,5 @@ pub mod Jumping
 pub mod TopCells
 -- a step that pushes a reference
 pub mod PushedReferences
+-- cells that are read and written in place
+pub mod LocalCells

@@ -7,6 +7,7 @@
 mod constants;
 mod halves;
 mod jumps;
+mod locals;
 mod numbers;
 mod operands;
 mod references;
