@@ -10,7 +10,7 @@ ghost use Rattle.split_safety.specs.Ready.{Shown};
 ghost use Rattle.mote_exec.specs.Locals.{part_at, with_part};
 ghost use Rattle.mote_exec.specs.Steps.{IsStep, GoesTo, stepped, with_stack};
 
-use crate::halves::push_pair;
+use crate::halves::{cut, push_pair};
 use cell_num::{join, low, sext, split};
 use image_instr::{Kind, Width};
 use mote_model::{State, Turn};
@@ -109,4 +109,89 @@ fn set_pair(region: &mut Region, local: u16, first: u16, second: u16)
     let _depth = region.cell_depth();
     region.set_int(local, first);
     region.set_int(local + 1, second);
+}
+
+/// Takes two cells off the top; the second was on top.
+fn pop_pair(region: &mut Region) -> (u16, u16)
+    requires frame { 0 < length region.old.frames }
+    requires there { 2 ≤ length (youngest_frame region.old).cells }
+    ensures pair { result.0 ∷ result.1 ∷ [] ≡ last_items 2 (youngest_frame region.old).cells }
+    ensures after { region.new ≡ with_cells region.old (without_last 2 (youngest_frame region.old).cells) }
+{
+    let end = region.cell_depth();
+    let first = region.int_at(end - 2);
+    let second = region.int_at(end - 1);
+    cut(region, 2);
+    (first, second)
+}
+
+/// Takes the cells of a local off the top, and writes them there.
+fn pop_cells_at(region: &mut Region, width: Width, local: u16)
+    requires frame { 0 < length region.old.frames }
+    requires there { local + count_of width + count_of width ≤ length (youngest_frame region.old).cells }
+    ensures { region.new ≡ with_cells region.old (with_part (without_last (count_of width) (youngest_frame region.old).cells) local (last_items (count_of width) (youngest_frame region.old).cells)) }
+{
+    match width {
+        Width::One => {
+            let cell = region.pop_cell();
+            set_cell(region, local, cell);
+        }
+        Width::Two => {
+            let (first, second) = pop_pair(region);
+            set_pair(region, local, first, second);
+        }
+    }
+}
+
+/// Takes the cells of a local off the top, writes them there, and goes on at a pc.
+fn pop_cell_local(mote: &mut State, next: u16, width: Width, local: u16) -> Turn
+    requires frame { 0 < length mote.old.region.frames }
+    requires there { local + count_of width + count_of width ≤ length (youngest_frame mote.old.region).cells }
+    ensures on { result ≡ On }
+    ensures stepped { mote.new ≡ with_stack mote.old (stepped mote.old.region next (youngest_frame mote.old.region).refs (with_part (without_last (count_of width) (youngest_frame mote.old.region).cells) local (last_items (count_of width) (youngest_frame mote.old.region).cells))) }
+{
+    pop_cells_at(&mut mote.region, width, local);
+    mote.region.set_pc(next);
+    Turn::On
+}
+
+/// The number of a local.
+fn number_at(region: &Region, width: Width, local: u16) -> i32
+    requires frame { 0 < length region.now.frames }
+    requires there { local + count_of width ≤ length (youngest_frame region.now).cells }
+    ensures value { result ≡ number_of (part_at local (count_of width) (youngest_frame region.now).cells) }
+    ensures fits { FitsSigned w32 result }
+{
+    let _depth = region.cell_depth();
+    match width {
+        Width::One => sext(region.int_at(local)),
+        Width::Two => join(region.int_at(local), region.int_at(local + 1)),
+    }
+}
+
+/// Writes a number into a local.
+fn set_number(region: &mut Region, width: Width, local: u16, number: i32)
+    requires frame { 0 < length region.old.frames }
+    requires there { local + count_of width ≤ length (youngest_frame region.old).cells }
+    ensures { region.new ≡ with_cells region.old (with_part (youngest_frame region.old).cells local (cells_of width number)) }
+{
+    match width {
+        Width::One => set_cell(region, local, low(number)),
+        Width::Two => {
+            let (first, second) = split(number);
+            set_pair(region, local, first, second);
+        }
+    }
+}
+
+/// Writes a number into a local, and goes on at a pc.
+fn set_number_local(mote: &mut State, next: u16, width: Width, local: u16, number: i32) -> Turn
+    requires frame { 0 < length mote.old.region.frames }
+    requires there { local + count_of width ≤ length (youngest_frame mote.old.region).cells }
+    ensures on { result ≡ On }
+    ensures stepped { mote.new ≡ with_stack mote.old (stepped mote.old.region next (youngest_frame mote.old.region).refs (with_part (youngest_frame mote.old.region).cells local (cells_of width number))) }
+{
+    set_number(&mut mote.region, width, local, number);
+    mote.region.set_pc(next);
+    Turn::On
 }
