@@ -195,3 +195,31 @@ fn set_number_local(mote: &mut State, next: u16, width: Width, local: u16, numbe
     mote.region.set_pc(next);
     Turn::On
 }
+
+/// Pushes a local.
+pub fn load(mote: &mut State, next: u16, kind: Kind, local: u16) -> Turn
+    ghost shown: { Shown }
+
+    requires { IsStep shown mote.old (insns.Load kind local) next }
+    ensures { GoesTo shown mote.old mote.new result }
+{
+    match kind {
+        Kind::Ref => push_ref_local(mote, next, local),
+        Kind::One => push_cell_local(mote, next, Width::One, local),
+        Kind::Two => push_cell_local(mote, next, Width::Two, local),
+    }
+}
+
+/// Pops into a local.
+pub fn store(mote: &mut State, next: u16, kind: Kind, local: u16) -> Turn
+    ghost shown: { Shown }
+
+    requires { IsStep shown mote.old (insns.Store kind local) next }
+    ensures { GoesTo shown mote.old mote.new result }
+{
+    match kind {
+        Kind::Ref => pop_ref_local(mote, next, local),
+        Kind::One => pop_cell_local(mote, next, Width::One, local),
+        Kind::Two => pop_cell_local(mote, next, Width::Two, local),
+    }
+}

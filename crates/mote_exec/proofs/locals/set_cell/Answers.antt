@@ -1,4 +1,4 @@
-use Rattle.std.proofs.Common.{ap, ◌∙◌, arith}
+use Rattle.std.proofs.Common.{ap, ◌∙◌}
 use Rattle.mote_stack.specs.Frames.{youngest_frame, with_cells}
 use Rattle.mote_exec.proofs.LocalCells.{one_set}
 use Rattle.mote_exec.proofs.locals.set_cell.Goals as goal
