@@ -15,7 +15,7 @@ mod small;
 
 pub use constants::constant;
 pub use jumps::{goto, jump_if_compared, jump_if_zero};
-pub use locals::{clear, load, store};
+pub use locals::{clear, increment, load, store};
 pub use numbers::{binary, negate};
 pub use operands::pop;
 pub use references::null;
