@@ -22,3 +22,15 @@ pub mod TakenReferences
 pub mod SameObjects
 -- tests of references
 pub mod ReferenceTesting
+-- cells that are read and written in place
+pub mod LocalCells
+-- references that are read and written among the locals
+pub mod LocalReferences
+-- locals of a width
+pub mod LocalWidths
+-- steps that push a local
+pub mod LoadedLocals
+-- steps that pop into a local
+pub mod StoredLocals
+-- steps that change a local in place
+pub mod ChangedLocals
