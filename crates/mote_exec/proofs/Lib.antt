@@ -12,3 +12,5 @@ pub mod Jumping
 pub mod TopCells
 -- a step that pushes a reference
 pub mod PushedReferences
+-- the instruction at the pc of a step
+pub mod Standing

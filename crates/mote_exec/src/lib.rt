@@ -11,6 +11,7 @@ mod numbers;
 mod operands;
 mod references;
 mod small;
+mod switches;
 
 pub use constants::constant;
 pub use jumps::{goto, jump_if_compared, jump_if_zero};
@@ -18,3 +19,4 @@ pub use numbers::{binary, negate};
 pub use operands::pop;
 pub use references::null;
 pub use small::{extend_byte, extend_sign, extend_zero, keep_bit};
+pub use switches::choose;
