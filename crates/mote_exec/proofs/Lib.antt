@@ -14,3 +14,11 @@ pub mod TopCells
 pub mod PushedReferences
 -- the instruction at the pc of a step
 pub mod Standing
+-- what shuffles do to a half of a frame
+pub mod Shuffled
+-- a step that moves references
+pub mod MovedReferences
+-- a step that reads statics
+pub mod ReadStatics
+-- a step that writes statics
+pub mod WrittenStatics

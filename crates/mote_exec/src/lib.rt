@@ -11,6 +11,7 @@ mod numbers;
 mod operands;
 mod references;
 mod small;
+mod statics;
 mod switches;
 
 pub use constants::constant;
@@ -19,4 +20,5 @@ pub use numbers::{binary, negate};
 pub use operands::pop;
 pub use references::null;
 pub use small::{extend_byte, extend_sign, extend_zero, keep_bit};
+pub use statics::{get_static, put_static};
 pub use switches::choose;
