@@ -12,12 +12,12 @@ pub mod Jumping
 pub mod TopCells
 -- a step that pushes a reference
 pub mod PushedReferences
--- the instruction at the pc of a step
-pub mod Standing
--- what shuffles do to a half of a frame
+-- shuffles of a half of a frame
 pub mod Shuffled
 -- a step that moves references
 pub mod MovedReferences
+-- the instruction at the pc of a step
+pub mod Standing
 -- a step that reads statics
 pub mod ReadStatics
 -- a step that writes statics

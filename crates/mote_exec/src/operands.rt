@@ -16,3 +16,15 @@ pub fn pop(mote: &mut State, next: u16, count: u16) -> Turn
 {
     fall(mote, next, count)
 }
+
+/// Removes the cell that has so many cells above it.
+pub fn drop_below(mote: &mut State, next: u16, above: u16) -> Turn
+    ghost shown: { Shown }
+
+    requires { IsStep shown mote.old (insns.Drop above) next }
+    ensures { GoesTo shown mote.old mote.new result }
+{
+    mote.region.drop_at(above);
+    mote.region.set_pc(next);
+    Turn::On
+}
