@@ -21,6 +21,11 @@ pub record IsStep (shown : Shown) (memory : Memory) (insn : MInsn) (pc : ℕ) : 
   pub ready : IsReady shown memory insn
   pub behind : let next = ready.next in pc ≡ next.frame.pc + next.size
 
+-- the same, and this is the code of the youngest frame's method
+pub record IsStepIn (shown : Shown) (memory : Memory) (code : List ℕ) (insn : MInsn) (pc : ℕ) : Type 0 where
+  pub step : IsStep shown memory insn pc
+  pub code_is : let ready = step.ready in let next = ready.next in let method = next.method in code ≡ method.code
+
 -- the turn says so of the move from the state that is shown
 abbrev pub StepsTo : Shown → (old new : Memory) (left after : ℕ) → Turn → Type 0
 StepsTo shown old new left after turn = PlainTurn shown.image shown.naming shown.size (move shown.image shown.state) shown.state old new left after turn

@@ -9,10 +9,12 @@ mod halves;
 mod jumps;
 mod numbers;
 mod operands;
+mod pending;
 mod references;
 mod shuffles;
 mod small;
 mod statics;
+mod step;
 mod switches;
 
 pub use constants::constant;
@@ -23,4 +25,5 @@ pub use references::null;
 pub use shuffles::{duplicate, duplicate_refs, swap, swap_refs};
 pub use small::{extend_byte, extend_sign, extend_zero, keep_bit};
 pub use statics::{get_static, put_static};
+pub use step::step_plain;
 pub use switches::choose;
