@@ -16,6 +16,12 @@ pub mod PushedReferences
 pub mod Shuffled
 -- a step that moves references
 pub mod MovedReferences
+-- a step that takes references off the top
+pub mod TakenReferences
+-- references of one object
+pub mod SameObjects
+-- tests of references
+pub mod ReferenceTesting
 -- the instruction at the pc of a step
 pub mod Standing
 -- a step that reads statics

@@ -3,7 +3,7 @@ use Rattle.std.proofs.Common.{◌≡◌, ℕ, zero, suc, ◌+◌, ◌<◌, ◌�
 use Rattle.std.specs.List.{AllByRecursion}
 use Rattle.std.proofs.Math.ListN.{get_or-map}
 use Rattle.std.proofs.Math.Numerals.{suc-eq-add-one}
-use Rattle.std.proofs.lemmas.List.{drop-map, length-map, length-reverse, length-take-le, map-set, set_split}
+use Rattle.std.proofs.lemmas.List.{length-map, length-reverse, length-take-le, map-set, set_split}
 use Rattle.std.proofs.lemmas.Option.{slice_get-get_or}
 use Rattle.image_instr.specs.declared.insn.MInsn.{MInsn}
 use Rattle.account.specs.Account.{no_need}
@@ -16,13 +16,13 @@ use Rattle.mote_model.specs.SplitMoves.{SplitMove, at_pc, goes_on, take_cells, t
 use Rattle.mote_model.specs.SplitState.{State, with_frames}
 use Rattle.mote_model.specs.SplitStep.{move_of}
 use Rattle.split_safety.specs.Ready.{Shown}
-use Rattle.split_safety.proofs.facts.Lists.{all_drop, all_get}
+use Rattle.split_safety.proofs.facts.Lists.{all_get}
 use Rattle.split_safety.proofs.facts.Parts.{replaced, replaced_there, ref_there}
 use Rattle.mote_exec.specs.Steps.{IsStep, GoesTo, stepped, with_taken}
 use Rattle.mote_exec.proofs.GoingOn.{frame, others, rows, move_here, own_cells, own_refs, pictured}
 use Rattle.mote_exec.proofs.HalfLists.{rest, top}
-use Rattle.mote_exec.proofs.MovedReferences.{cells_of_refs, kept_with, operands_kept}
-use Rattle.mote_exec.proofs.Shuffled.{map-half}
+use Rattle.mote_exec.proofs.MovedReferences.{cells_of_refs, operands_kept}
+use Rattle.mote_exec.proofs.TakenReferences.{left_kept, left_refs, without_refs}
 use Rattle.mote_exec.proofs.Taking.{first_same, takes_cells, top_alone}
 
 -- a reference that is there is taken
@@ -110,19 +110,17 @@ module _ (shown : Shown) (old new : Memory) (insn : MInsn) (pc : ℕ) (step : Is
       let there : 1 ≤ length shown_operands = omega (arith, enough, length-map operands f) in
       let cell_is : cell ≡ f reference =
       first_same cell (get_or shown_operands 0 0) (read ∙ ap (last_items 1) (cells_of_refs shown old new insn pc step) ∙ top (map f here.refs.locals) shown_operands 1 there ∙ top_alone shown_operands there) ∙ get_or-map f operands 0 None in
-      let left = ap (without_last 1) (cells_of_refs shown old new insn pc step) ∙ rest (map f here.refs.locals) shown_operands 1 there
-      ∙ ap (λ (operands : List ℕ). map f here.refs.locals ++ reverse operands) (drop-map f 1 operands) ∙ sym (map-half f here.refs.locals (drop 1 operands)) in
       let fits : place < length state.ref_statics = omega (arith, within, ap length pictures.ref_statics, length-map state.ref_statics f) in
       let kept = operands_kept shown old new insn pc step in
       let set_one = set_split old.ref_statics.items place cell within ∙ ap (λ k. take place old.ref_statics.items ++ cell ∷ drop k old.ref_statics.items) (suc-eq-add-one place) in
-      let moved = with_refs here (drop 1 operands) in
+      let moved = without_refs 1 here in
       let stored : List Reference → SplitMove = λ statics. goes_on (record state { ref_statics = statics }) moved below pc in
       let moves : Option (List Reference) → SplitMove = λ found. using found stored in
       let one_kept = all_get (IsKept shown.naming) operands 0 reference kept (slice_get-get_or operands 0 None enough) in
       stores (record state { ref_statics = set state.ref_statics place reference }) moved
       (is ∙ takes_ref_from here operands (λ reference rest. using (with_ref_at state.ref_statics place reference) (λ (statics : List Reference). goes_on (record state { ref_statics = statics }) rest below pc)) enough
       ∙ ap moves (ref_there state.ref_statics place reference fits))
-      refl (kept_with shown old new insn pc step (drop 1 operands) (all_drop (IsKept shown.naming) 1 operands kept))
-      (region ∙ ap₂ (λ refs cells. stepped old.region pc refs cells) left (own_cells shown old new insn pc step))
+      refl (left_kept shown old new insn pc step 1)
+      (region ∙ ap₂ (λ refs cells. stepped old.region pc refs cells) (left_refs shown old new insn pc step 1 enough) (own_cells shown old new insn pc step))
       (written ∙ sym set_one ∙ ap₂ (λ (items : List ℕ) (cell : ℕ). set items place cell) pictures.ref_statics cell_is ∙ sym (map-set f state.ref_statics place reference))
       (cells ∙ pictures.cell_statics) (all_set (IsKept shown.naming) state.ref_statics place reference pictures.kept_statics one_kept) collections

@@ -13,7 +13,7 @@ use image_instr::{Condition, Width};
 use mote_model::{Ending, State, Turn};
 
 /// Takes one of the ticks that are left, where a jump is a tick; false where none is left.
-fn take_tick(pc: u16, target: u16, left: &mut u64) -> bool
+pub(crate) fn take_tick(pc: u16, target: u16, left: &mut u64) -> bool
     ensures { IsTaken pc target left.old left.new result }
 {
     if pc < target {

@@ -9,7 +9,7 @@ ghost use Rattle.split_safety.specs.Ready.{Shown};
 ghost use Rattle.mote_exec.specs.Steps.{IsStep, GoesTo, stepped, with_stack};
 
 use crate::halves::{fall, push_pair};
-use crate::references::put_ref;
+use crate::references::{fall_refs, put_ref};
 use crate::small::top_cell;
 use image_instr::Kind;
 use mote_model::{State, Turn};
@@ -93,18 +93,6 @@ fn top_ref(region: &Region) -> u16
     region.ref_at(region.ref_depth() - 1)
 }
 
-/// Takes a reference off the top, and goes on at a pc.
-fn fall_ref(mote: &mut State, next: u16) -> Turn
-    requires frame { 0 < length mote.old.region.frames }
-    requires there { 1 ≤ length (youngest_frame mote.old.region).refs }
-    ensures on { result ≡ On }
-    ensures stepped { mote.new ≡ with_stack mote.old (stepped mote.old.region next (without_last 1 (youngest_frame mote.old.region).refs) (youngest_frame mote.old.region).cells) }
-{
-    let _reference = mote.region.pop_ref();
-    mote.region.set_pc(next);
-    Turn::On
-}
-
 /// Pushes a static that is a reference.
 fn load_ref(mote: &mut State, next: u16, at: u16) -> Turn
     ghost shown: { Shown }
@@ -161,7 +149,7 @@ fn store_ref(mote: &mut State, next: u16, at: u16) -> Turn
 {
     let reference = top_ref(&mote.region);
     set_cell(&mut mote.ref_statics, at, reference);
-    fall_ref(mote, next)
+    fall_refs(mote, next, 1)
 }
 
 /// Takes a cell off the top, which becomes a static.

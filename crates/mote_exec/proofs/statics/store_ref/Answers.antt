@@ -29,7 +29,7 @@ returns g c =
     let frame = c.requires.ready.next.frame in
     let enough : 1 ≤ length frame.refs.operands = omega (arith, here.operands.refs) in
     let within = ref_there g.shown memory memory insn c.args.next c.requires c.args.at here.ids in
-    let stepped = c.fall_ref.ensures.stepped in
-    rw c.fall_ref.ensures.on
-    (stores_ref g.shown memory c.fall_ref.new.mote insn c.args.next c.requires c.args.at c.top_ref-reference.result enough within c.top_ref-reference.ensures (ap (λ (memory : State). memory.region) stepped)
+    let stepped = c.fall_refs.ensures.stepped in
+    rw c.fall_refs.ensures.on
+    (stores_ref g.shown memory c.fall_refs.new.mote insn c.args.next c.requires c.args.at c.top_ref-reference.result enough within c.top_ref-reference.ensures (ap (λ (memory : State). memory.region) stepped)
     (ap (λ (memory : State). memory.ref_statics.items) stepped ∙ c.set_cell.ensures) (ap (λ (memory : State). memory.cell_statics.items) stepped) (ap (λ (memory : State). memory.collections) stepped) refl)
