@@ -28,3 +28,13 @@ pub mod Standing
 pub mod ReadStatics
 -- a step that writes statics
 pub mod WrittenStatics
+-- cells that are read and written in place
+pub mod LocalCells
+-- references that are read and written among the locals
+pub mod LocalReferences
+-- locals of a width
+pub mod LocalWidths
+-- steps that push a local
+pub mod LoadedLocals
+-- steps that pop into a local
+pub mod StoredLocals
