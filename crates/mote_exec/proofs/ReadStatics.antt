@@ -16,11 +16,9 @@ use Rattle.split_safety.proofs.facts.Lists.{all_get}
 use Rattle.split_safety.proofs.facts.Parts.{part, part_there}
 use Rattle.mote_exec.specs.Steps.{IsStep, GoesTo, stepped, with_stack}
 use Rattle.mote_exec.proofs.GoingOn.{at, frame, others, rows, gives}
+use Rattle.mote_exec.proofs.LocalCells.{without_none}
 use Rattle.mote_exec.proofs.PushedReferences.{gives_ref}
 use Rattle.mote_exec.proofs.Taking.{first_same}
-
-all_cells : (cells : List ℕ) → take (length cells - 0) cells ≡ cells
-all_cells cells = grind (arith, take_all)
 
 module _ (shown : Shown) (old new : Memory) (insn : MInsn) (pc : ℕ) (step : IsStep shown old insn pc) where
   abbrev here : Frame
@@ -54,7 +52,7 @@ module _ (shown : Shown) (old new : Memory) (insn : MInsn) (pc : ℕ) (step : Is
       let same : items ≡ found = read ∙ ap (λ (all : List ℕ). take count (drop place all)) statics in
       let put : List ℕ → Memory = λ cells. with_stack old (let youngest = youngest_frame old.region in stepped old.region pc youngest.refs (cells ++ items)) in
       let moves : Option (List ℕ) → SplitMove = λ found. using found (λ cells. goes_on shown.state (push_cells cells here) below pc) in
-      gives shown old new insn pc step 0 items (omega arith) (e ∙ ap put (sym (all_cells (let youngest = youngest_frame old.region in youngest.cells))))
+      gives shown old new insn pc step 0 items (omega arith) (e ∙ ap put (sym (without_none (let youngest = youngest_frame old.region in youngest.cells))))
       (is ∙ ap moves (part_there shown.state.cell_statics place count fits) ∙ ap (λ cells. goes_on shown.state (push_cells cells here) below pc) (sym same))
 
   -- a reference is pushed

@@ -21,20 +21,10 @@ use Rattle.split_safety.proofs.facts.Parts.{replaced, replaced_there, ref_there}
 use Rattle.mote_exec.specs.Steps.{IsStep, GoesTo, stepped, with_taken}
 use Rattle.mote_exec.proofs.GoingOn.{frame, others, rows, move_here, own_cells, own_refs, pictured}
 use Rattle.mote_exec.proofs.HalfLists.{rest, top}
+use Rattle.mote_exec.proofs.LocalReferences.{all_set, takes_ref, top_reference}
 use Rattle.mote_exec.proofs.MovedReferences.{cells_of_refs, operands_kept}
 use Rattle.mote_exec.proofs.TakenReferences.{left_kept, left_refs, without_refs}
 use Rattle.mote_exec.proofs.Taking.{first_same, takes_cells, top_alone}
-
--- a reference that is there is taken
-takes_ref_from : (frame : Frame) (operands : List Reference) (use_it : Reference → Frame → SplitMove) → 1 ≤ length operands
-    → take_ref_from frame operands use_it ≡ use_it (get_or operands 0 None) (with_refs frame (drop 1 operands))
-takes_ref_from frame [] use_it enough = absurd (omega (arith, enough))
-takes_ref_from frame (reference ∷ operands) use_it enough = refl
-
-all_set : {X : Type 0} (P : X → Type 0) (xs : List X) (k : ℕ) (x : X) → AllByRecursion P xs → P x → AllByRecursion P (set xs k x)
-all_set P [] k x all is = all
-all_set P (y ∷ xs) zero x all is = (is, all.1)
-all_set P (y ∷ xs) (suc k) x all is = (all.0, all_set P xs k x all.1 is)
 
 module _ (shown : Shown) (old new : Memory) (insn : MInsn) (pc : ℕ) (step : IsStep shown old insn pc) where
   abbrev here : Frame
@@ -106,7 +96,7 @@ module _ (shown : Shown) (old new : Memory) (insn : MInsn) (pc : ℕ) (step : Is
       let f = cell_of shown.naming in
       let operands = here.refs.operands in
       let shown_operands = map f operands in
-      let reference : Reference = get_or operands 0 None in
+      let reference = top_reference operands in
       let there : 1 ≤ length shown_operands = omega (arith, enough, length-map operands f) in
       let cell_is : cell ≡ f reference =
       first_same cell (get_or shown_operands 0 0) (read ∙ ap (last_items 1) (cells_of_refs shown old new insn pc step) ∙ top (map f here.refs.locals) shown_operands 1 there ∙ top_alone shown_operands there) ∙ get_or-map f operands 0 None in
@@ -118,7 +108,7 @@ module _ (shown : Shown) (old new : Memory) (insn : MInsn) (pc : ℕ) (step : Is
       let moves : Option (List Reference) → SplitMove = λ found. using found stored in
       let one_kept = all_get (IsKept shown.naming) operands 0 reference kept (slice_get-get_or operands 0 None enough) in
       stores (record state { ref_statics = set state.ref_statics place reference }) moved
-      (is ∙ takes_ref_from here operands (λ reference rest. using (with_ref_at state.ref_statics place reference) (λ (statics : List Reference). goes_on (record state { ref_statics = statics }) rest below pc)) enough
+      (is ∙ takes_ref here (λ reference rest. using (with_ref_at state.ref_statics place reference) (λ (statics : List Reference). goes_on (record state { ref_statics = statics }) rest below pc)) enough
       ∙ ap moves (ref_there state.ref_statics place reference fits))
       refl (left_kept shown old new insn pc step 1)
       (region ∙ ap₂ (λ refs cells. stepped old.region pc refs cells) (left_refs shown old new insn pc step 1 enough) (own_cells shown old new insn pc step))
