@@ -38,3 +38,5 @@ pub mod LocalWidths
 pub mod LoadedLocals
 -- steps that pop into a local
 pub mod StoredLocals
+-- steps that change a local in place
+pub mod ChangedLocals

@@ -223,3 +223,13 @@ pub fn store(mote: &mut State, next: u16, kind: Kind, local: u16) -> Turn
         Kind::Two => pop_cell_local(mote, next, Width::Two, local),
     }
 }
+
+/// Makes a reference local null.
+pub fn clear(mote: &mut State, next: u16, local: u16) -> Turn
+    ghost shown: { Shown }
+
+    requires { IsStep shown mote.old (insns.RClear local) next }
+    ensures { GoesTo shown mote.old mote.new result }
+{
+    set_ref_local(mote, next, local, NULL)
+}
