@@ -20,7 +20,7 @@ mod switches;
 
 pub use constants::constant;
 pub use jumps::{goto, jump_if_compared, jump_if_zero};
-pub use locals::{clear, load, store};
+pub use locals::{clear, increment, load, store};
 pub use numbers::{binary, negate};
 pub use operands::{drop_below, pop};
 pub use reference_tests::jump_if_reference;

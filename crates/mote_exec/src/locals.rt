@@ -231,3 +231,15 @@ pub fn clear(mote: &mut State, next: u16, local: u16) -> Turn
 {
     set_ref_local(mote, next, local, NULL)
 }
+
+/// Adds to the number of a local, wrapped to 32 bits.
+pub fn increment(mote: &mut State, next: u16, width: Width, local: u16, amount: i16) -> Turn
+    ghost shown: { Shown }
+
+    requires { IsStep shown mote.old (insns.Inc width local amount) next }
+    ensures { GoesTo shown mote.old mote.new result }
+{
+    let number = number_at(&mote.region, width, local);
+    let sum = number.wrapping_add(i32::from(amount));
+    set_number_local(mote, next, width, local, sum)
+}
