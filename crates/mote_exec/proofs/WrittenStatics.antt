@@ -1,5 +1,5 @@
 -- A step that takes what is on top, and writes it over a static.
-use Rattle.std.proofs.Common.{◌≡◌, ℕ, zero, suc, ◌+◌, ◌<◌, ◌≤◌, List, [], ◌∷◌, ◌++◌, map, length, take, drop, reverse, set, get_or, Option, None, refl, sym, ap, ap₂, subst, ◌∙◌, arith}
+use Rattle.std.proofs.Common.{◌≡◌, ℕ, ◌+◌, ◌<◌, ◌≤◌, List, [], ◌∷◌, ◌++◌, map, length, take, drop, reverse, set, get_or, Option, None, refl, sym, ap, ap₂, subst, ◌∙◌, arith}
 use Rattle.std.specs.List.{AllByRecursion}
 use Rattle.std.proofs.Math.ListN.{get_or-map}
 use Rattle.std.proofs.Math.Numerals.{suc-eq-add-one}
@@ -12,7 +12,7 @@ use Rattle.mote_model.specs.declared.memory.State.{State as Memory}
 use Rattle.mote_model.specs.declared.turn.Turn.TheVariants.{On}
 use Rattle.mote_model.specs.State.{Reference, Frame, whole}
 use Rattle.mote_model.specs.Picture.{cell_of, IsKept, KeepsFrame}
-use Rattle.mote_model.specs.SplitMoves.{SplitMove, at_pc, goes_on, take_cells, take_ref, take_ref_from, using, with_cells_at, with_ref_at, with_refs}
+use Rattle.mote_model.specs.SplitMoves.{SplitMove, at_pc, goes_on, take_cells, take_ref, using, with_cells_at, with_ref_at}
 use Rattle.mote_model.specs.SplitState.{State, with_frames}
 use Rattle.mote_model.specs.SplitStep.{move_of}
 use Rattle.split_safety.specs.Ready.{Shown}

@@ -1,4 +1,4 @@
-use Rattle.std.proofs.Common.{◌∙◌, refl, ap, get_or, ℕ, arith}
+use Rattle.std.proofs.Common.{refl, arith}
 use Rattle.image_instr.specs.declared.insn.Kind.TheVariants as kinds
 use Rattle.image_instr.specs.declared.insn.MInsn.TheVariants as insns
 use Rattle.mote_exec.proofs.GoingOn.{at, free_cells}
