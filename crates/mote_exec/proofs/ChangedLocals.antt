@@ -1,5 +1,5 @@
 -- Steps that change a local in place.
-use Rattle.std.proofs.Common.{◌≡◌, ℕ, ℤ, ◌+◌, ◌+ℤ◌, ◌<◌, ◌≤◌, List, [], ◌∷◌, ◌++◌, length, map, reverse, Option, None, Some, refl, sym, ap, ap₂, subst, ◌∙◌, arith}
+use Rattle.std.proofs.Common.{◌≡◌, ℕ, ℤ, ◌+◌, ◌+ℤ◌, ◌<◌, ◌≤◌, List, length, reverse, Option, None, refl, ap, ap₂, subst, ◌∙◌, arith}
 use Rattle.std.specs.Prelude.{slice_set, option_and_then}
 use Rattle.std.specs.Int.{w32, int_wrap}
 use Rattle.std.specs.List.{AllByRecursion}
@@ -11,7 +11,7 @@ use Rattle.mote_model.specs.declared.memory.State.{State as Memory}
 use Rattle.mote_model.specs.declared.turn.Turn.TheVariants.{On}
 use Rattle.mote_model.specs.State.{Reference, Frame}
 use Rattle.mote_model.specs.Picture.{IsKept, KeepsFrame, cell_of}
-use Rattle.mote_model.specs.SplitMoves.{SplitMove, cells_at, cells_of, count_of, goes_on, number_of, using, with_cell_locals, with_cells_at, with_ref_locals}
+use Rattle.mote_model.specs.SplitMoves.{SplitMove, cells_of, count_of, goes_on, number_of, using, with_cell_locals, with_cells_at, with_ref_locals}
 use Rattle.split_safety.specs.Ready.{Shown}
 use Rattle.split_safety.proofs.facts.Cells.{number_count}
 use Rattle.split_safety.proofs.facts.Lists.{all_append, all_left, all_right}

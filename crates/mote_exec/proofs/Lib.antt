@@ -22,6 +22,13 @@ pub mod TakenReferences
 pub mod SameObjects
 -- tests of references
 pub mod ReferenceTesting
+
+-- the instruction at the pc of a step
+pub mod Standing
+-- a step that reads statics
+pub mod ReadStatics
+-- a step that writes statics
+pub mod WrittenStatics
 -- cells that are read and written in place
 pub mod LocalCells
 -- references that are read and written among the locals

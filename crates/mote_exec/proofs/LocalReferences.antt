@@ -14,7 +14,8 @@ use Rattle.mote_exec.proofs.HalfLists.{parted}
 abbrev pub top_reference : List Reference → Reference
 top_reference operands = get_or operands 0 None
 
-takes_from : (frame : Frame) (operands : List Reference) (use_it : Reference → Frame → SplitMove) → 1 ≤ length operands
+-- one of these operands is taken
+pub takes_from : (frame : Frame) (operands : List Reference) (use_it : Reference → Frame → SplitMove) → 1 ≤ length operands
     → take_ref_from frame operands use_it ≡ use_it (top_reference operands) (with_refs frame (drop 1 operands))
 takes_from frame [] use_it enough = absurd (omega (arith, enough))
 takes_from frame (reference ∷ operands) use_it enough = refl

@@ -18,16 +18,12 @@ use Rattle.mote_exec.specs.ReferenceTests.{is_met}
 use Rattle.mote_exec.specs.Steps.{IsStep}
 use Rattle.mote_exec.proofs.GoingOn.{frame, others, rows, at}
 use Rattle.mote_exec.proofs.HalfLists.{top}
+use Rattle.mote_exec.proofs.LocalReferences.{takes_from}
 use Rattle.mote_exec.proofs.MovedReferences.{cells_of_refs, operands_kept}
 use Rattle.mote_exec.proofs.SameObjects.{same_cells, null_cell, object_cell}
 use Rattle.mote_exec.proofs.TakenReferences.{without_refs}
 
 -- ---- the move
-
-from_top : (frame : Frame) (operands : List Reference) (use_it : Reference → Frame → SplitMove) → 1 ≤ length operands
-    → take_ref_from frame operands use_it ≡ use_it (get_or operands 0 None) (with_refs frame (drop 1 operands))
-from_top frame [] use_it enough = absurd (omega (arith, enough))
-from_top frame (a ∷ rest) use_it enough = refl
 
 from_two : (frame : Frame) (operands : List Reference) (use_them : Reference → Reference → Frame → SplitMove) → 2 ≤ length operands
     → take_ref_from frame operands (λ b below. take_ref below (λ a rest. use_them b a rest)) ≡ use_them (get_or operands 0 None) (get_or operands 1 None) (with_refs frame (drop 2 operands))
@@ -46,8 +42,8 @@ pub tests : (state : State) (frame : Frame) (others : List Frame) (next : ℕ) (
     → jump_if_reference state frame others next test target ≡ branches (passes test frame.refs.operands) state (without_refs (tested_refs test) frame) others target next
 tests state frame others next ref_test.Equal target enough = from_two frame frame.refs.operands (λ b a rest. branches (are_same a b) state rest others target next) enough
 tests state frame others next ref_test.NotEqual target enough = from_two frame frame.refs.operands (λ b a rest. branches (not (are_same a b)) state rest others target next) enough
-tests state frame others next ref_test.Null target enough = from_top frame frame.refs.operands (λ a rest. branches (not (is_some a)) state rest others target next) enough
-tests state frame others next ref_test.NonNull target enough = from_top frame frame.refs.operands (λ a rest. branches (is_some a) state rest others target next) enough
+tests state frame others next ref_test.Null target enough = takes_from frame frame.refs.operands (λ a rest. branches (not (is_some a)) state rest others target next) enough
+tests state frame others next ref_test.NonNull target enough = takes_from frame frame.refs.operands (λ a rest. branches (is_some a) state rest others target next) enough
 
 -- ---- the cells
 

@@ -36,7 +36,7 @@ module _ (shown : Shown) (old new : Memory) (insn : MInsn) (pc : ℕ) (step : Is
   left_kept taken = kept_with shown old new insn pc step (drop taken here.refs.operands) (all_drop (IsKept shown.naming) taken here.refs.operands (operands_kept shown old new insn pc step))
 
   -- what is left of the references
-  left_refs : (taken : ℕ) → taken ≤ length here.refs.operands → (let youngest = youngest_frame old.region in without_last taken youngest.refs) ≡ map (cell_of shown.naming) (whole (without_refs taken here).refs)
+  pub left_refs : (taken : ℕ) → taken ≤ length here.refs.operands → (let youngest = youngest_frame old.region in without_last taken youngest.refs) ≡ map (cell_of shown.naming) (whole (without_refs taken here).refs)
   left_refs taken enough =
       let cell = cell_of shown.naming in
       ap (without_last taken) (cells_of_refs shown old new insn pc step)

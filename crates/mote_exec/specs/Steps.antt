@@ -1,8 +1,9 @@
 -- What a plain step is asked and answers, and the youngest frame after it.
-use Rattle.std.specs.Prelude.{◌≡◌, ℕ, ℤ, ◌+◌, Bool, true, false, nat_lt, if◌then◌else◌, List, drop}
+use Rattle.std.specs.Prelude.{◌≡◌, ℕ, ℤ, ◌+◌, Bool, true, false, nat_lt, if◌then◌else◌, List, drop, IsTrue}
 use Rattle.image_instr.specs.declared.insn.MInsn.{MInsn}
 use Rattle.image_instr.specs.declared.insn.SwitchRow.{SwitchRow}
 use Rattle.image_instr.specs.declared.insn.Width.{Width}
+use Rattle.image_instr.specs.Switch.{is_switch, default_of}
 use Rattle.image_check.specs.Visits.{moved_by}
 use Rattle.mote_stack.specs.Frames.{Stack, youngest_frame, with_youngest, without_last, last_items}
 use Rattle.mote_model.specs.declared.memory.State.{State as Memory}
@@ -11,7 +12,7 @@ use Rattle.mote_model.specs.declared.turn.Turn.{Turn}
 use Rattle.mote_model.specs.declared.turn.Turn.TheVariants.{On, Ends}
 use Rattle.mote_model.specs.State.{Frame}
 use Rattle.mote_model.specs.SplitMoves.{count_of, number_of, goes_on, push_number, with_cells}
-use Rattle.mote_model.specs.SplitStep.{move, move_of}
+use Rattle.mote_model.specs.SplitStep.{move, move_of, choose}
 use Rattle.mote_model.specs.Turns.{PlainTurn, TakesTick}
 use Rattle.split_safety.specs.Ready.{Shown, IsReady}
 
@@ -19,6 +20,11 @@ use Rattle.split_safety.specs.Ready.{Shown, IsReady}
 pub record IsStep (shown : Shown) (memory : Memory) (insn : MInsn) (pc : ℕ) : Type 0 where
   pub ready : IsReady shown memory insn
   pub behind : let next = ready.next in pc ≡ next.frame.pc + next.size
+
+-- the same, and this is the code of the youngest frame's method
+pub record IsStepIn (shown : Shown) (memory : Memory) (code : List ℕ) (insn : MInsn) (pc : ℕ) : Type 0 where
+  pub step : IsStep shown memory insn pc
+  pub code_is : let ready = step.ready in let next = ready.next in let method = next.method in code ≡ method.code
 
 -- the turn says so of the move from the state that is shown
 abbrev pub StepsTo : Shown → (old new : Memory) (left after : ℕ) → Turn → Type 0
@@ -73,3 +79,14 @@ pub data Jumps (old new : Memory) (taken target left after : ℕ) (turn : Turn) 
   Jumped : turn ≡ On → new ≡ with_stack old (let youngest = youngest_frame old.region in stepped old.region target youngest.refs (without_last taken youngest.cells))
       → (let youngest = youngest_frame old.region in TakesTick (is_tick youngest.pc target) left after) → Jumps old new taken target left after turn
   WasSpent : turn ≡ Ends Spent → new ≡ old → (let youngest = youngest_frame old.region in is_tick youngest.pc target ≡ true) → left ≡ 0 → after ≡ left → Jumps old new taken target left after turn
+
+-- ---- switches
+
+-- the memory is ready for a switch or a table of this code, that of the youngest frame's method, whose key is of this width
+pub record IsChoice (shown : Shown) (memory : Memory) (code : List ℕ) (w : Width) : Type 0 where
+  pub insn : MInsn
+  pub ready : IsReady shown memory insn
+  pub code_is : let next = ready.next in let method = next.method in code ≡ method.code
+  pub switches : IsTrue (is_switch insn)
+  pub chooses : (frame : Frame) (others : List Frame) (next : ℕ) (rows : List SwitchRow) → move_of shown.image shown.state frame others next insn rows ≡ choose shown.state frame others w rows (default_of insn)
+  pub effect : moved_by shown.image insn ≡ record { ref_pop = 0; ref_push = 0; cell_pop = count_of w; cell_push = 0 }

@@ -1,8 +1,8 @@
-//! Parts of a plain step of the mote machine, over the memory of a mote: constants, arithmetic and jumps on whole numbers,
-//! operands that are moved and removed, and jumps by tests of references.
-//! What each answers is said by the move of the split machine (`mote_model`, in specs/Turns.antt), and what is asked
-//! before it stands in specs/Steps.antt. The program does not use them yet. This crate stands on `mote_model`,
-//! `mote_stack`, `split_safety`, `image_instr` and `cell_num`.
+//! The step of a plain instruction over the memory of a mote: constants, arithmetic on whole numbers, locals, operands,
+//! statics and jumps. The main call is `step_plain`, which finds the function of the instruction. What each answers is said
+//! by the move of the split machine (`mote_model`, in specs/Turns.antt), and what is asked before it stands in
+//! specs/Steps.antt. The program does not use them yet. This crate stands on `mote_model`, `mote_stack`, `split_safety`,
+//! `image_check`, `image_instr` and `cell_num`.
 #![tactic(auto)]
 
 mod constants;
@@ -15,6 +15,9 @@ mod reference_tests;
 mod references;
 mod shuffles;
 mod small;
+mod statics;
+mod step;
+mod switches;
 
 pub use constants::constant;
 pub use jumps::{goto, jump_if_compared, jump_if_zero};
@@ -25,3 +28,6 @@ pub use reference_tests::jump_if_reference;
 pub use references::{null, pop_refs};
 pub use shuffles::{duplicate, duplicate_refs, swap, swap_refs};
 pub use small::{extend_byte, extend_sign, extend_zero, keep_bit};
+pub use statics::{get_static, put_static};
+pub use step::step_plain;
+pub use switches::choose;

@@ -11,13 +11,11 @@ ghost use Rattle.mote_exec.specs.Locals.{part_at, with_part};
 ghost use Rattle.mote_exec.specs.Steps.{IsStep, GoesTo, stepped, with_stack};
 
 use crate::halves::{cut, push_pair};
+use crate::references::NULL;
 use cell_num::{join, low, sext, split};
 use image_instr::{Kind, Width};
 use mote_model::{State, Turn};
 use mote_stack::Region;
-
-/// The cell of null.
-const NULL: u16 = 0;
 
 /// Pushes a reference local, and goes on at a pc.
 fn push_ref_local(mote: &mut State, next: u16, local: u16) -> Turn

@@ -14,7 +14,7 @@ use mote_stack::Region;
 pub(crate) const NULL: u16 = 0;
 
 /// Pushes a reference, and goes on at a pc.
-fn put_ref(mote: &mut State, next: u16, reference: u16) -> Turn
+pub(crate) fn put_ref(mote: &mut State, next: u16, reference: u16) -> Turn
     requires frame { 0 < length mote.old.region.frames }
     requires room { HasFreeCells mote.old.region 1 }
     ensures on { result ≡ On }

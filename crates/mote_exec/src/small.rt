@@ -14,7 +14,7 @@ use mote_model::{State, Turn};
 use mote_stack::Region;
 
 /// The cell on top.
-fn top_cell(region: &Region) -> u16
+pub(crate) fn top_cell(region: &Region) -> u16
     requires frame { 0 < length region.now.frames }
     requires there { 1 ≤ length (youngest_frame region.now).cells }
     ensures { result ∷ [] ≡ last_items 1 (youngest_frame region.now).cells }
