@@ -14,3 +14,13 @@ pub mod StaticPlaces
 pub mod ReturnedValues
 -- a method that returns a reference
 pub mod ReturnedReferences
+-- the cells of what a declared type keeps
+pub mod KeptCells
+-- declared types of whole numbers
+pub mod WholeKinds
+-- fields that stand once among all
+pub mod FieldsOnce
+-- the places of such fields
+pub mod PlacesOnce
+-- static fields as they are declared
+pub mod DeclaredStatics

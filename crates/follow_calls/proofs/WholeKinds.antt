@@ -1,0 +1,55 @@
+-- Declared types of whole numbers: an int is kept in two cells, a small type in one; and all others are references.
+use Rattle.std.proofs.Common.{◌≡◌, ◌⊎◌, inl, inr, ℕ, ℤ, zero, suc, ◌≤◌, true, false, List, [], ◌∷◌, length, Ok, Err, refl, arith}
+use Rattle.std.specs.Option.{ok_or}
+use Rattle.class_pool.specs.declared.descriptor.Base.{Base}
+use Rattle.class_pool.specs.declared.descriptor.Base.TheVariants as named
+use Rattle.class_pool.specs.declared.descriptor.Kind.{Kind}
+use Rattle.class_pool.specs.declared.descriptor.Kind.TheVariants as kind
+use Rattle.class_pool.specs.declared.types.TypeBase.{TypeBase}
+use Rattle.class_pool.specs.declared.types.TypeBase.TheVariants as base
+use Rattle.class_pool.specs.Descriptors.{HasDims, base_of}
+use Rattle.class_file.specs.declared.record.ClassFile.{ClassFile}
+use Rattle.class_tree.specs.Set.{number_of}
+use Rattle.body_form.specs.declared.types.VType.{VType}
+use Rattle.body_form.specs.declared.types.VType.TheVariants as known
+use Rattle.insn_form.specs.declared.ValueKind.TheVariants as value_kind
+use Rattle.jvm_model.specs.declared.refusal.Cause.TheVariants.{Unresolved}
+use Rattle.jvm_model.specs.Initialisers.{is_whole_kind, is_reference_kind}
+use Rattle.jvm_model.specs.Resolution.{Resolved, and_then, base_named, type_with}
+use Rattle.jvm_model.specs.TypesFrames.{fits_in, fits_kind, value_in}
+use Rattle.jvm_model.specs.TypesRules.{has_kind}
+
+no_class : (files : List ClassFile) (found : Resolved ℕ) → fits_in files (and_then (λ of. Ok (type_with 0 of)) (and_then (λ (class : ℕ). Ok (base.Class class)) found)) known.Int ≡ true → ⊥
+no_class files (Ok class) fits = cc
+no_class files (Err why) fits = cc
+
+no_array : (files : List ClassFile) (dims : ℕ) (found : Resolved TypeBase) → 1 ≤ dims → fits_in files (and_then (λ of. Ok (type_with dims of)) found) known.Int ≡ true → ⊥
+no_array files zero found some fits = absurd (omega (arith, some))
+no_array files (suc dims) (Ok of) some fits = cc
+no_array files (suc dims) (Err why) some fits = cc
+
+-- a whole number stands only where one is declared
+int_declared : (files : List ClassFile) (of : Kind) → HasDims of → fits_kind files of known.Int ≡ true → is_whole_kind of ≡ true
+int_declared files kind.Byte dims fits = refl
+int_declared files kind.Char dims fits = refl
+int_declared files kind.Short dims fits = refl
+int_declared files kind.Int dims fits = refl
+int_declared files kind.Boolean dims fits = refl
+int_declared files kind.Long dims fits = cc
+int_declared files kind.Float dims fits = cc
+int_declared files kind.Double dims fits = cc
+int_declared files (kind.Class name) dims fits = absurd (no_class files (ok_or (number_of files name) Unresolved) fits)
+int_declared files (kind.Array count of) dims fits = absurd (no_array files count (base_named files of) dims.0 fits)
+
+pub whole_declared : (files : List ClassFile) (of : Kind) (type : VType) → HasDims of → has_kind value_kind.Int type ≡ true → fits_kind files of type ≡ true → is_whole_kind of ≡ true
+whole_declared files of known.Int dims has fits = int_declared files of dims fits
+whole_declared files of type dims has fits = cc
+
+-- a whole number is no reference
+pub no_reference : (of : Kind) → is_whole_kind of ≡ true → is_reference_kind of ≡ false
+no_reference kind.Byte whole = refl
+no_reference kind.Char whole = refl
+no_reference kind.Short whole = refl
+no_reference kind.Int whole = refl
+no_reference kind.Boolean whole = refl
+no_reference of whole = cc
