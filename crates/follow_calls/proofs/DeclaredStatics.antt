@@ -1,5 +1,5 @@
 -- The static fields of a set are those that its classes declare, and hold values of their declared types.
-use Rattle.std.proofs.Common.{◌≡◌, ◌⊎◌, inl, inr, ℕ, zero, suc, ◌+◌, ◌≤◌, Bool, true, false, cond, List, [], ◌∷◌, ◌++◌, map, filter, Option, Some, None, Ok, Err, option_map, option_and_then, unwrap_or, slice_get, if◌then◌else◌, refl, sym, ap, subst, ◌∙◌, arith}
+use Rattle.std.proofs.Common.{◌≡◌, ◌⊎◌, inl, inr, ℕ, zero, suc, ◌+◌, ◌≤◌, Bool, true, false, List, [], ◌∷◌, map, Option, Some, None, Ok, Err, option_map, option_and_then, unwrap_or, slice_get, if◌then◌else◌, refl, sym, ap, subst, ◌∙◌, arith}
 use Rattle.std.specs.List.{AllByRecursion, flat_map}
 use Rattle.std.specs.Option.{option_map_or, ok_or}
 use Rattle.std.proofs.lemmas.Option.{none-some, same_Some, slice_get-map}
@@ -10,13 +10,12 @@ use Rattle.class_pool.specs.declared.types.TypeBase.{TypeBase}
 use Rattle.class_pool.specs.declared.types.TypeBase.TheVariants as base
 use Rattle.class_pool.specs.declared.types.TypeRef.{TypeRef}
 use Rattle.class_pool.specs.DescriptorReading.{field_of, kind_at, base_at, brackets}
-use Rattle.class_pool.specs.Descriptors.{HasDims, base_of}
+use Rattle.class_pool.specs.Descriptors.{HasDims}
 use Rattle.class_pool.specs.Pool.{utf8_at}
 use Rattle.class_file.specs.Rules.{is_static}
 use Rattle.class_file.specs.declared.record.ClassFile.{ClassFile}
 use Rattle.class_file.specs.declared.record.Member.{Member}
 use Rattle.class_tree.proofs.lookups.Climbing.{all_append}
-use Rattle.class_tree.specs.Descriptors.{is_wide_base}
 use Rattle.class_tree.specs.Members.{Declaration, in_file}
 use Rattle.class_tree.specs.Set.{file_of, number_of}
 use Rattle.class_tree.specs.Tree.{Gathers}
@@ -26,7 +25,6 @@ use Rattle.body_form.specs.declared.types.VType.TheVariants as known
 use Rattle.jvm_model.specs.declared.refusal.Cause.TheVariants.{Unresolved}
 use Rattle.jvm_model.specs.ImageNumbering.{Field, fields_from, class_fields, class_order, all_fields, static_fields}
 use Rattle.jvm_model.specs.Initialisers.{is_whole_kind, is_reference_kind}
-use Rattle.jvm_model.specs.InitialStatics.{kind_of as member_kind}
 use Rattle.jvm_model.specs.Resolution.{Resolved, and_then, base_named, type_with}
 use Rattle.jvm_model.specs.State.{Value, Null, Name}
 use Rattle.jvm_model.specs.TypesFrames.{value_in}
@@ -36,7 +34,7 @@ use Rattle.type_safety.proofs.facts.Declared.{field_of_file}
 use Rattle.type_safety.proofs.facts.RunMethods.{own_file}
 use Rattle.type_safety.proofs.fitting.NewObject.{IsOfNames, field_of_names}
 use Rattle.type_safety.specs.Fitting.{IsWhole, ValueFits, KindFits, static_field}
-use Rattle.follow_calls.proofs.FieldsOnce.{StandsOnce, field_at, stands_once}
+use Rattle.follow_calls.proofs.FieldsOnce.{StandsOnce, field_at, kept_where, stands_once}
 
 -- ---- what is declared of them
 
@@ -91,17 +89,8 @@ module _ (files : List ClassFile) where
   declared_of (class ∷ classes) =
       all_append (IsDeclaredWhereStatic files) (class_fields files class) (flat_map (class_fields files) classes) (declared_in class (file_of files class) refl) (declared_of classes)
 
-  first_static : (field : Field) (fields : List Field) → IsDeclaredWhereStatic files field → AllByRecursion (IsDeclared files) (filter (λ (f : Field). f.static) fields) → (static : Bool) → field.static ≡ static
-      → AllByRecursion (IsDeclared files) (cond static (field ∷ filter (λ (f : Field). f.static) fields) (filter (λ (f : Field). f.static) fields))
-  first_static field fields here rest true is = (here is, rest)
-  first_static field fields here rest false is = rest
-
-  all_static : (fields : List Field) → AllByRecursion (IsDeclaredWhereStatic files) fields → AllByRecursion (IsDeclared files) (filter (λ (f : Field). f.static) fields)
-  all_static [] all = tt
-  all_static (field ∷ fields) all = first_static field fields all.0 (all_static fields all.1) field.static refl
-
   pub statics_declared : AllByRecursion (IsDeclared files) (static_fields files)
-  statics_declared = all_static (all_fields files) (declared_of (class_order files))
+  statics_declared = kept_where (IsDeclared files) (λ (field : Field). field.static) (all_fields files) (declared_of (class_order files))
 
   -- ---- where one stands
 

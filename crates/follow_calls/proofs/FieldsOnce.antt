@@ -1,5 +1,5 @@
 -- A field of a set stands once among the fields of all its classes.
-use Rattle.std.proofs.Common.{◌≡◌, ℕ, zero, suc, ◌+◌, ◌<◌, Bool, true, false, ◌||◌, nat_eq, cond, List, [], ◌∷◌, ◌++◌, filter, Option, Some, None, is_some, slice_get, refl, sym, ap, ap₂, subst, ◌∙◌, arith}
+use Rattle.std.proofs.Common.{◌≡◌, ℕ, zero, suc, ◌+◌, ◌<◌, Bool, true, false, nat_eq, cond, List, [], ◌∷◌, ◌++◌, filter, Option, Some, None, is_some, slice_get, refl, sym, ap, ap₂, subst, ◌∙◌, arith}
 use Rattle.std.specs.List.{AllByRecursion, flat_map}
 use Rattle.std.specs.Option.{option_map_or}
 use Rattle.std.proofs.lemmas.Bool.{and_left, and_right, or_parts, ne_eqb}
@@ -13,7 +13,7 @@ use Rattle.class_file.specs.Rules.{is_static}
 use Rattle.class_file.specs.declared.record.ClassFile.{ClassFile}
 use Rattle.class_file.specs.declared.record.Member.{Member}
 use Rattle.class_order.proofs.ClassOrders.{right_order}
-use Rattle.class_tree.proofs.lookups.Climbing.{all_append}
+use Rattle.class_tree.proofs.lookups.Climbing.{all_append, all_map}
 use Rattle.class_tree.specs.Members.{member_at}
 use Rattle.class_tree.specs.Set.{file_of}
 use Rattle.class_tree.specs.Tree.{Gathers}
@@ -116,14 +116,18 @@ module _ (files : List ClassFile) where
 
 -- ---- among those that pass a test
 
-kept_first : (P : Field → Type 0) (test : Field → Bool) (field : Field) (fields : List Field) → P field → AllByRecursion P (filter test fields) → (passes : Bool)
+first_where : (P : Field → Type 0) (test : Field → Bool) (field : Field) (fields : List Field) → (passes : Bool) → (passes ≡ true → P field) → AllByRecursion P (filter test fields)
     → AllByRecursion P (cond passes (field ∷ filter test fields) (filter test fields))
-kept_first P test field fields here rest true = (here, rest)
-kept_first P test field fields here rest false = rest
+first_where P test field fields true here rest = (here refl, rest)
+first_where P test field fields false here rest = rest
+
+-- what holds of those that pass, holds of what is kept
+pub kept_where : (P : Field → Type 0) (test : Field → Bool) (fields : List Field) → AllByRecursion (λ (field : Field). test field ≡ true → P field) fields → AllByRecursion P (filter test fields)
+kept_where P test [] all = tt
+kept_where P test (field ∷ fields) all = first_where P test field fields (test field) all.0 (kept_where P test fields all.1)
 
 pub kept_all : (P : Field → Type 0) (test : Field → Bool) (fields : List Field) → AllByRecursion P fields → AllByRecursion P (filter test fields)
-kept_all P test [] all = tt
-kept_all P test (field ∷ fields) all = kept_first P test field fields all.0 (kept_all P test fields all.1) (test field)
+kept_all P test fields all = kept_where P test fields (all_map P (λ (field : Field). test field ≡ true → P field) (λ field holds passes. holds) fields all)
 
 module _ (test : Field → Bool) (field : Field) (all : List Field) (once : StandsOnce field all) where
   filtered : filter test all ≡ filter test once.before ++ cond (test field) (field ∷ filter test once.after) (filter test once.after)

@@ -1,5 +1,5 @@
 -- The low cell of what a declared type keeps of a number, and the number by its low cell.
-use Rattle.std.proofs.Common.{◌≡◌, ℕ, ℤ, pos, ◌%◌, ◌<◌, ◌+◌, FitsSigned, refl, sym, ap, subst, ◌∙◌, arith}
+use Rattle.std.proofs.Common.{◌≡◌, ℕ, ℤ, pos, ◌%◌, ◌<◌, FitsSigned, sym, ap, subst, ◌∙◌, arith}
 use Rattle.std.proofs.Math.Nat.{mod-lt}
 use Rattle.std.proofs.lemmas.Int.{ints, SFits-int_wrap}
 use Rattle.std.specs.Int.{w8, w16, w32, int_wrap, cast_signed, cast_unsigned}

@@ -1,5 +1,5 @@
 -- A whole number of two cells is cut to what a declared type keeps of it, and read from there as two cells again.
-use Rattle.std.proofs.Common.{◌≡◌, ℕ, ℤ, pos, ◌+◌, ◌%◌, FitsSigned, true, List, [], ◌∷◌, ◌++◌, length, reverse, refl, sym, ap, ◌∙◌}
+use Rattle.std.proofs.Common.{◌≡◌, ℕ, ℤ, pos, ◌+◌, ◌%◌, FitsSigned, true, List, [], ◌∷◌, ◌++◌, length, reverse, refl, ap}
 use Rattle.std.specs.Int.{w32}
 use Rattle.cell_num.specs.declared.conversions.Conv.TheVariants as conv
 use Rattle.cell_num.specs.Cells.{low_cell, high_cell, sign_extended}

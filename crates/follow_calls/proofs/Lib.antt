@@ -24,3 +24,11 @@ pub mod FieldsOnce
 pub mod PlacesOnce
 -- static fields as they are declared
 pub mod DeclaredStatics
+-- a number as its type keeps it
+pub mod KeptNumbers
+-- items at their places
+pub mod PlacedItems
+-- a number that is cut to the result
+pub mod CutResults
+-- a method that returns a whole number
+pub mod ReturnedNumbers

@@ -1,13 +1,11 @@
 -- Declared types of whole numbers: an int is kept in two cells, a small type in one; and all others are references.
-use Rattle.std.proofs.Common.{◌≡◌, ◌⊎◌, inl, inr, ℕ, ℤ, zero, suc, ◌≤◌, true, false, List, [], ◌∷◌, length, Ok, Err, refl, arith}
+use Rattle.std.proofs.Common.{◌≡◌, ℕ, zero, suc, ◌≤◌, true, false, List, Ok, Err, refl, arith}
 use Rattle.std.specs.Option.{ok_or}
-use Rattle.class_pool.specs.declared.descriptor.Base.{Base}
-use Rattle.class_pool.specs.declared.descriptor.Base.TheVariants as named
 use Rattle.class_pool.specs.declared.descriptor.Kind.{Kind}
 use Rattle.class_pool.specs.declared.descriptor.Kind.TheVariants as kind
 use Rattle.class_pool.specs.declared.types.TypeBase.{TypeBase}
 use Rattle.class_pool.specs.declared.types.TypeBase.TheVariants as base
-use Rattle.class_pool.specs.Descriptors.{HasDims, base_of}
+use Rattle.class_pool.specs.Descriptors.{HasDims}
 use Rattle.class_file.specs.declared.record.ClassFile.{ClassFile}
 use Rattle.class_tree.specs.Set.{number_of}
 use Rattle.body_form.specs.declared.types.VType.{VType}
@@ -16,7 +14,7 @@ use Rattle.insn_form.specs.declared.ValueKind.TheVariants as value_kind
 use Rattle.jvm_model.specs.declared.refusal.Cause.TheVariants.{Unresolved}
 use Rattle.jvm_model.specs.Initialisers.{is_whole_kind, is_reference_kind}
 use Rattle.jvm_model.specs.Resolution.{Resolved, and_then, base_named, type_with}
-use Rattle.jvm_model.specs.TypesFrames.{fits_in, fits_kind, value_in}
+use Rattle.jvm_model.specs.TypesFrames.{fits_in, fits_kind}
 use Rattle.jvm_model.specs.TypesRules.{has_kind}
 
 no_class : (files : List ClassFile) (found : Resolved ℕ) → fits_in files (and_then (λ of. Ok (type_with 0 of)) (and_then (λ (class : ℕ). Ok (base.Class class)) found)) known.Int ≡ true → ⊥
