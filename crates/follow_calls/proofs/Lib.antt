@@ -32,3 +32,7 @@ pub mod PlacedItems
 pub mod CutResults
 -- a method that returns a whole number
 pub mod ReturnedNumbers
+-- where statics stand, and what a write of one changes
+pub mod StaticParts
+-- a static that is read
+pub mod ReadStatics

@@ -10,7 +10,7 @@ use Rattle.jvm_model.specs.declared.numbers.FieldPlace.{FieldPlace}
 use Rattle.jvm_model.specs.ImageNumbering.{Field, is_member, place_among, place_listed}
 use Rattle.follow_calls.proofs.FieldsOnce.{AreOthers, StandsOnce}
 
-own_member : (member : MemberId) → is_member member member ≡ true
+pub own_member : (member : MemberId) → is_member member member ≡ true
 own_member member = and_from (nat_eq member.class member.class) (nat_eq member.member member.member) (eq-eqb member.class member.class refl) (eq-eqb member.member member.member refl)
 
 -- ---- what other fields hold

@@ -1,5 +1,5 @@
 -- Declared types of whole numbers: an int is kept in two cells, a small type in one; and all others are references.
-use Rattle.std.proofs.Common.{◌≡◌, ℕ, zero, suc, ◌≤◌, true, false, List, Ok, Err, refl, arith}
+use Rattle.std.proofs.Common.{◌≡◌, ◌⊎◌, inl, inr, ℕ, ℤ, zero, suc, ◌≤◌, Bool, true, false, List, [], length, Ok, Err, if◌then◌else◌, refl, arith}
 use Rattle.std.specs.Option.{ok_or}
 use Rattle.class_pool.specs.declared.descriptor.Kind.{Kind}
 use Rattle.class_pool.specs.declared.descriptor.Kind.TheVariants as kind
@@ -7,6 +7,12 @@ use Rattle.class_pool.specs.declared.types.TypeBase.{TypeBase}
 use Rattle.class_pool.specs.declared.types.TypeBase.TheVariants as base
 use Rattle.class_pool.specs.Descriptors.{HasDims}
 use Rattle.class_file.specs.declared.record.ClassFile.{ClassFile}
+use Rattle.image_instr.specs.declared.insn.Kind.{Kind as Shape}
+use Rattle.image_instr.specs.declared.insn.Kind.TheVariants as shapes
+use Rattle.jvm_model.specs.ImageExpansion.{kind_in, read_as, write_as}
+use Rattle.jvm_model.specs.State.{Whole}
+use Rattle.mote_model.specs.SplitObjects.{size_of}
+use Rattle.match_states.specs.MatchedFrames.{cells_of_shape}
 use Rattle.class_tree.specs.Set.{number_of}
 use Rattle.body_form.specs.declared.types.VType.{VType}
 use Rattle.body_form.specs.declared.types.VType.TheVariants as known
@@ -51,3 +57,35 @@ no_reference kind.Short whole = refl
 no_reference kind.Int whole = refl
 no_reference kind.Boolean whole = refl
 no_reference of whole = cc
+
+-- a reference is no whole number
+pub no_number : (of : Kind) → is_reference_kind of ≡ true → is_whole_kind of ≡ false
+no_number (kind.Class name) refers = refl
+no_number (kind.Array dims of) refers = refl
+no_number of refers = cc
+
+-- what a number is kept in has as many cells as are moved
+pub kept_size : (of : Kind) → is_whole_kind of ≡ true → (number : ℤ) → size_of (kind_in of) ≡ length (cells_of_shape (kind_in of) (Whole number))
+kept_size kind.Byte whole number = refl
+kept_size kind.Char whole number = refl
+kept_size kind.Short whole number = refl
+kept_size kind.Int whole number = refl
+kept_size kind.Boolean whole number = refl
+kept_size of whole number = absurd cc
+
+-- ---- references
+
+pub reference_kind : (of : Kind) → is_reference_kind of ≡ true → kind_in of ≡ shapes.Ref
+reference_kind (kind.Class name) is = refl
+reference_kind (kind.Array dims of) is = refl
+reference_kind of is = absurd cc
+
+pub reference_reads : (of : Kind) (shape : Shape) → is_reference_kind of ≡ true → read_as of shape ≡ []
+reference_reads (kind.Class name) shape is = refl
+reference_reads (kind.Array dims of) shape is = refl
+reference_reads of shape is = absurd cc
+
+pub reference_writes : (of : Kind) (shape : Shape) → is_reference_kind of ≡ true → write_as of shape ≡ []
+reference_writes (kind.Class name) shape is = refl
+reference_writes (kind.Array dims of) shape is = refl
+reference_writes of shape is = absurd cc
