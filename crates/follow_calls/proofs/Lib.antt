@@ -36,3 +36,7 @@ pub mod ReturnedNumbers
 pub mod StaticParts
 -- a static that is read
 pub mod ReadStatics
+-- states whose statics or objects change
+pub mod ChangedStates
+-- a static that is written
+pub mod WrittenStatics

@@ -30,7 +30,7 @@ use Rattle.follow_calls.proofs.WholeKinds.{no_reference, no_number}
 
 -- ---- counts of cells
 
-cells_counted : (of : DeclaredKind) → is_whole_kind of ≡ true → (number : ℤ) → length (kept_cells of number) ≡ passed_cells of
+pub cells_counted : (of : DeclaredKind) → is_whole_kind of ≡ true → (number : ℤ) → length (kept_cells of number) ≡ passed_cells of
 cells_counted declared.Byte whole number = refl
 cells_counted declared.Char whole number = refl
 cells_counted declared.Short whole number = refl
@@ -38,7 +38,7 @@ cells_counted declared.Int whole number = refl
 cells_counted declared.Boolean whole number = refl
 cells_counted of whole number = absurd cc
 
-kept_count : (of : DeclaredKind) → is_whole_kind of ≡ true → (value : Value) → IsWhole value → length (cells_of_shape (kind_in of) value) ≡ passed_cells of
+pub kept_count : (of : DeclaredKind) → is_whole_kind of ≡ true → (value : Value) → IsWhole value → length (cells_of_shape (kind_in of) value) ≡ passed_cells of
 kept_count of whole value is = ap (λ (v : Value). length (cells_of_shape (kind_in of) v)) is.1 ∙ cells_counted of whole is.0
 
 module _ (setting : Setting) (objects : List Object) (statics : Fields) (fits : StaticsFit setting.world objects statics) (body : Body) where

@@ -5,6 +5,7 @@ use Rattle.class_pool.specs.declared.descriptor.Kind.{Kind}
 use Rattle.class_pool.specs.declared.descriptor.Kind.TheVariants as kind
 use Rattle.class_pool.specs.declared.types.TypeBase.{TypeBase}
 use Rattle.class_pool.specs.declared.types.TypeBase.TheVariants as base
+use Rattle.class_pool.specs.declared.types.TypeRef.{TypeRef}
 use Rattle.class_pool.specs.Descriptors.{HasDims}
 use Rattle.class_file.specs.declared.record.ClassFile.{ClassFile}
 use Rattle.image_instr.specs.declared.insn.Kind.{Kind as Shape}
@@ -13,13 +14,14 @@ use Rattle.jvm_model.specs.ImageExpansion.{kind_in, read_as, write_as}
 use Rattle.jvm_model.specs.State.{Whole}
 use Rattle.mote_model.specs.SplitObjects.{size_of}
 use Rattle.match_states.specs.MatchedFrames.{cells_of_shape}
+use Rattle.class_tree.specs.Merge.{is_reference}
 use Rattle.class_tree.specs.Set.{number_of}
 use Rattle.body_form.specs.declared.types.VType.{VType}
 use Rattle.body_form.specs.declared.types.VType.TheVariants as known
 use Rattle.insn_form.specs.declared.ValueKind.TheVariants as value_kind
 use Rattle.jvm_model.specs.declared.refusal.Cause.TheVariants.{Unresolved}
 use Rattle.jvm_model.specs.Initialisers.{is_whole_kind, is_reference_kind}
-use Rattle.jvm_model.specs.Resolution.{Resolved, and_then, base_named, type_with}
+use Rattle.jvm_model.specs.Resolution.{Resolved, and_then, base_named, kind_named, type_with}
 use Rattle.jvm_model.specs.TypesFrames.{fits_in, fits_kind}
 use Rattle.jvm_model.specs.TypesRules.{has_kind}
 
@@ -89,3 +91,32 @@ pub reference_writes : (of : Kind) (shape : Shape) → is_reference_kind of ≡ 
 reference_writes (kind.Class name) shape is = refl
 reference_writes (kind.Array dims of) shape is = refl
 reference_writes of shape is = absurd cc
+
+-- ---- what is taken
+
+pub whole_taken : (files : List ClassFile) (of : Kind) (type : VType) → is_whole_kind of ≡ true → fits_kind files of type ≡ true → has_kind value_kind.Int type ≡ true
+whole_taken files kind.Byte type whole fits = fits
+whole_taken files kind.Char type whole fits = fits
+whole_taken files kind.Short type whole fits = fits
+whole_taken files kind.Int type whole fits = fits
+whole_taken files kind.Boolean type whole fits = fits
+whole_taken files of type whole fits = absurd cc
+
+neither : (refers : Bool) → (if refers then false else false) ≡ true → ⊥
+neither true fits = cc
+neither false fits = cc
+
+no_top : (files : List ClassFile) (found : Resolved TypeRef) → fits_in files found known.Top ≡ true → ⊥
+no_top files (Ok type) fits = neither (is_reference type.dims type.base) fits
+no_top files (Err why) fits = cc
+
+both_ways : (b : Bool) → b ≡ false → b ≡ true → ⊥
+both_ways b no yes = cc
+
+pub reference_taken : (files : List ClassFile) (of : Kind) (type : VType) → is_reference_kind of ≡ true → HasDims of → fits_kind files of type ≡ true → has_kind value_kind.Ref type ≡ true
+reference_taken files of known.Top refers dims fits = absurd (no_top files (kind_named files of) fits)
+reference_taken files of known.Int refers dims fits = absurd (both_ways (is_whole_kind of) (no_number of refers) (int_declared files of dims fits))
+reference_taken files of known.Null refers dims fits = refl
+reference_taken files of (known.Ref type) refers dims fits = refl
+reference_taken files of (known.New pc) refers dims fits = refl
+reference_taken files of known.This refers dims fits = refl
