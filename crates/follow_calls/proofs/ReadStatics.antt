@@ -1,13 +1,11 @@
 -- The split machine follows the typed one where a static is read.
-use Rattle.std.proofs.Common.{◌≡◌, ◌⊎◌, inl, inr, ℕ, ℤ, ◌+◌, true, List, [], ◌∷◌, ◌++◌, length, reverse, slice_get, Option, Some, refl, sym, ap, subst, ◌∙◌}
+use Rattle.std.proofs.Common.{◌≡◌, inl, inr, ℕ, ◌+◌, true, List, [], ◌∷◌, ◌++◌, length, reverse, slice_get, Option, Some, refl, sym, ap, subst, ◌∙◌}
 use Rattle.std.specs.Option.{option_map_or}
 use Rattle.account.specs.Account.{no_need}
 use Rattle.class_pool.specs.declared.descriptor.Kind.{Kind as DeclaredKind}
 use Rattle.class_pool.specs.declared.descriptor.Kind.TheVariants as declared
-use Rattle.image_form.specs.declared.record.Image.{Image}
 use Rattle.image_instr.specs.declared.insn.Kind.{Kind}
 use Rattle.image_instr.specs.declared.insn.Kind.TheVariants as kind
-use Rattle.image_instr.specs.declared.insn.MInsn.{MInsn}
 use Rattle.image_instr.specs.declared.insn.MInsn.TheVariants as insns
 use Rattle.image_instr.specs.Insn.{insn_bytes}
 use Rattle.body_form.specs.declared.op.FieldUse.{FieldUse}
@@ -30,9 +28,9 @@ use Rattle.typed_machine.specs.TypedStep.{move, read_static}
 use Rattle.typed_machine.specs.TypedWorld.{pc_after}
 use Rattle.type_safety.proofs.fitting.NewObject.{IsOfNames}
 use Rattle.type_safety.specs.Facts.{IsStaticField}
-use Rattle.type_safety.specs.Fitting.{IsWhole, IsKept, KindFits, FieldFits}
+use Rattle.type_safety.specs.Fitting.{IsKept, KindFits, FieldFits}
 use Rattle.type_safety.specs.Safety.{MoveFits}
-use Rattle.match_states.specs.MatchedFrames.{IsOfShape, cells_of_shape, reference_of}
+use Rattle.match_states.specs.MatchedFrames.{cells_of_shape, reference_of}
 use Rattle.match_states.specs.Setting.{Setting, table_for, widths_for}
 use Rattle.match_code.specs.Standing.{emitted_at}
 use Rattle.match_code.proofs.CodeLayout.{same_after}

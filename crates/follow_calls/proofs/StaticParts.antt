@@ -1,5 +1,5 @@
 -- Where the image places a static, and what a write of it changes: its own cells, or its own reference.
-use Rattle.std.proofs.Common.{◌≡◌, ℕ, ℤ, Bool, true, false, List, [], ◌∷◌, ◌++◌, map, filter, length, Option, Some, None, if◌then◌else◌, refl, sym, ap, ap₂, subst, ◌∙◌}
+use Rattle.std.proofs.Common.{◌≡◌, ℕ, ℤ, Bool, true, false, List, [], ◌∷◌, ◌++◌, map, filter, length, Option, Some, None, if◌then◌else◌, refl, sym, ap, ap₂, ◌∙◌}
 use Rattle.std.specs.List.{AllByRecursion, flat_map}
 use Rattle.std.specs.Option.{option_map_or}
 use Rattle.std.proofs.lemmas.List.Concat.{flat_map_single}
@@ -13,7 +13,7 @@ use Rattle.jvm_model.specs.ImageExpansion.{kind_in}
 use Rattle.jvm_model.specs.ImageNumbering.{Numbering, Field, is_member, is_reference_field, is_number_field, all_fields, static_fields, fields_of_object, place_among, place_in, place_of, place_listed, ids_of}
 use Rattle.jvm_model.specs.ImageNumbering as numbering
 use Rattle.jvm_model.specs.Initialisers.{is_whole_kind, is_reference_kind}
-use Rattle.jvm_model.specs.State.{Value, Whole}
+use Rattle.jvm_model.specs.State.{Value}
 use Rattle.jvm_model.specs.WidthsSlots.{passed_cells}
 use Rattle.mote_model.specs.State.{Reference}
 use Rattle.typed_machine.specs.TypedState.{Object, Fields, with_field}
@@ -23,7 +23,7 @@ use Rattle.match_states.specs.MatchedFrames.{cells_of_shape, reference_of}
 use Rattle.match_states.specs.MatchedObjects.{field_cells, field_reference, references_in, cells_in}
 use Rattle.match_states.specs.Setting.{Setting, IsCompiled}
 use Rattle.follow_calls.proofs.DeclaredStatics.{IsDeclared, IsListed, statics_declared, static_listed, whole_value}
-use Rattle.follow_calls.proofs.FieldsOnce.{AreOthers, StandsOnce, kept_all, kept_where, once_kept, once_left}
+use Rattle.follow_calls.proofs.FieldsOnce.{StandsOnce, kept_where, once_kept, once_left}
 use Rattle.follow_calls.proofs.KeptNumbers.{kept_cells}
 use Rattle.follow_calls.proofs.PlacesOnce.{at_place, own_member, listed_once, place_once, held_once, mapped_once, others_held, others_mapped}
 use Rattle.follow_calls.proofs.WholeKinds.{no_reference, no_number}

@@ -1,5 +1,5 @@
 -- Declared types of whole numbers: an int is kept in two cells, a small type in one; and all others are references.
-use Rattle.std.proofs.Common.{◌≡◌, ◌⊎◌, inl, inr, ℕ, ℤ, zero, suc, ◌≤◌, Bool, true, false, List, [], length, Ok, Err, if◌then◌else◌, refl, arith}
+use Rattle.std.proofs.Common.{◌≡◌, ℕ, ℤ, zero, suc, ◌≤◌, Bool, true, false, List, [], length, Ok, Err, if◌then◌else◌, refl, arith}
 use Rattle.std.specs.Option.{ok_or}
 use Rattle.class_pool.specs.declared.descriptor.Kind.{Kind}
 use Rattle.class_pool.specs.declared.descriptor.Kind.TheVariants as kind
@@ -111,7 +111,7 @@ no_top files (Ok type) fits = neither (is_reference type.dims type.base) fits
 no_top files (Err why) fits = cc
 
 both_ways : (b : Bool) → b ≡ false → b ≡ true → ⊥
-both_ways b no yes = cc
+both_ways b differs is = cc
 
 pub reference_taken : (files : List ClassFile) (of : Kind) (type : VType) → is_reference_kind of ≡ true → HasDims of → fits_kind files of type ≡ true → has_kind value_kind.Ref type ≡ true
 reference_taken files of known.Top refers dims fits = absurd (no_top files (kind_named files of) fits)

@@ -1,5 +1,5 @@
 -- The split machine follows the typed one where a static is written.
-use Rattle.std.proofs.Common.{◌≡◌, inl, inr, ℕ, ℤ, ◌+◌, Bool, true, ◌&&◌, List, [], ◌∷◌, ◌++◌, length, reverse, Option, Some, refl, sym, ap, subst, ◌∙◌}
+use Rattle.std.proofs.Common.{◌≡◌, inl, inr, ℕ, ◌+◌, true, List, [], ◌∷◌, ◌++◌, length, Option, Some, refl, sym, ap, subst, ◌∙◌}
 use Rattle.std.specs.Option.{option_map_or}
 use Rattle.std.proofs.lemmas.Bool.{and_parts}
 use Rattle.account.specs.Account.{Stuck}
@@ -35,7 +35,7 @@ use Rattle.typed_machine.specs.TypedWorld.{pc_after}
 use Rattle.type_safety.proofs.fitting.NewObject.{IsOfNames}
 use Rattle.type_safety.specs.Facts.{IsStaticField}
 use Rattle.type_safety.specs.Fitting.{ValueFits, KindFits, FieldFits}
-use Rattle.match_states.specs.MatchedFrames.{IsOfShape, cells_of_shape, reference_of}
+use Rattle.match_states.specs.MatchedFrames.{cells_of_shape, reference_of}
 use Rattle.match_states.specs.Setting.{Setting, table_for, widths_for}
 use Rattle.match_code.specs.Standing.{emitted_at}
 use Rattle.match_code.proofs.QuietRuns.{OverNone}
