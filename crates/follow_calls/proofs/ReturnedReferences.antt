@@ -43,7 +43,7 @@ use Rattle.follow_calls.proofs.ReturnedValues.{ReturnsValue, returns_value}
 use Rattle.follow_calls.proofs.WaitingOperands.{operands_below}
 
 -- a reference is kept as it is
-kept_reference : (result : Kind) (value : Value) → IsOfShape kind.Ref value → kept_as result value ≡ value
+pub kept_reference : (result : Kind) (value : Value) → IsOfShape kind.Ref value → kept_as result value ≡ value
 kept_reference result value (inl is) = ap (kept_as result) is ∙ sym is
 kept_reference result value (inr is) = ap (kept_as result) is.1 ∙ sym is.1
 
