@@ -14,3 +14,7 @@ pub mod StaticPlaces
 pub mod ReturnedValues
 -- a method that returns a reference
 pub mod ReturnedReferences
+-- moves that need and show something
+pub mod LoudMoves
+-- calls of natives
+pub mod NativeCalls
