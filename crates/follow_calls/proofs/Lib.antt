@@ -16,5 +16,7 @@ pub mod ReturnedValues
 pub mod ReturnedReferences
 -- moves that need and show something
 pub mod LoudMoves
--- calls of natives
+-- the moves of both machines where a static method is a native
+pub mod NativeMoves
+-- calls of static methods that are natives
 pub mod NativeCalls

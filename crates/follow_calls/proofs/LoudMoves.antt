@@ -14,7 +14,6 @@ use Rattle.mote_model.specs.SplitStep as split_step
 use Rattle.typed_machine.specs.TypedMoves.{TypedMove, at_pc, does_next}
 use Rattle.typed_machine.specs.TypedState.{State, with_frames, with_answers}
 use Rattle.typed_machine.specs.TypedStep.{move}
-use Rattle.typed_machine.specs.TypedWorld.{body_among}
 use Rattle.type_safety.specs.Fitting.{StateFits}
 use Rattle.type_safety.specs.Safety.{MoveFits}
 use Rattle.match_states.specs.Followed.{StatesMatch, EndingsMatch}

@@ -1,133 +1,69 @@
 -- The split machine follows the typed one where a static method is called that is a native: write, print and read.
-use Rattle.std.proofs.Common.{◌≡◌, ℕ, ℤ, ◌+◌, Bool, true, false, nat_lt, if◌then◌else◌, List, [], ◌∷◌, ◌++◌, map, reverse, drop, length, Option, Some, None, refl, sym, ap, subst, ◌∙◌}
+use Rattle.std.proofs.Common.{◌≡◌, ℕ, ℤ, false, List, [], ◌∷◌, map, Option, Some, None, refl, sym, ap, subst, ◌∙◌}
 use Rattle.std.specs.Fmt.{signed_decimal}
 use Rattle.std.specs.Option.{option_map_or}
 use Rattle.cell_num.specs.Cells.{low_cell, high_cell}
 use Rattle.dialogue.specs.Natives.{low_byte, next_byte, after_byte}
-use Rattle.account.specs.Account.{Get, Put, Does, Stuck, tick_need}
+use Rattle.account.specs.Account.{Get, Put, Does, tick_need}
 use Rattle.library.specs.declared.natives.Native.{Native}
 use Rattle.library.specs.declared.natives.Native.TheVariants as native
-use Rattle.library.specs.Natives as library
-use Rattle.library.specs.Natives.{number_of}
 use Rattle.class_pool.specs.declared.descriptor.Kind.{Kind as DeclaredKind}
 use Rattle.class_pool.specs.declared.descriptor.Kind.TheVariants as declared
-use Rattle.image_instr.specs.declared.insn.Kind.{Kind}
-use Rattle.image_instr.specs.declared.insn.MInsn.TheVariants as insns
 use Rattle.image_instr.specs.declared.insn.Width.TheVariants as width
 use Rattle.body_form.specs.declared.op.MethodUse.{MethodUse}
 use Rattle.body_form.specs.declared.op.Op.TheVariants as op
-use Rattle.jvm_model.specs.ImageEmission.{offset_of}
-use Rattle.jvm_model.specs.ImageExpansion.{Emitted, alone, cut_arguments, read_as, top_of}
-use Rattle.jvm_model.specs.ImageNumbering.{method_id, number_from, is_member}
+use Rattle.jvm_model.specs.ImageExpansion.{read_as, top_of}
 use Rattle.jvm_model.specs.State.{Value, Whole}
 use Rattle.jvm_model.specs.WidthsShapes.{shapes_at, point_at}
-use Rattle.jvm_model.specs.WidthsShapes.{pc_after as split_after}
-use Rattle.mote_model.specs.State.{Frame as SplitFrame}
 use Rattle.mote_model.specs.SplitMoves as split_moves
 use Rattle.mote_model.specs.SplitMoves.{with_cells, push_number}
 use Rattle.mote_model.specs.SplitState as split
 use Rattle.mote_model.specs.SplitStep as split_step
-use Rattle.typed_machine.specs.TypedCalls.{shows, runs_native, runs, runs_code, arguments_of, argument_count}
-use Rattle.typed_machine.specs.TypedMoves.{TypedMove, does_next}
-use Rattle.typed_machine.specs.TypedState.{Frame, State, with_answers}
+use Rattle.typed_machine.specs.TypedCalls.{shows}
+use Rattle.typed_machine.specs.TypedMoves.{does_next}
+use Rattle.typed_machine.specs.TypedState.{State, with_answers}
 use Rattle.typed_machine.specs.TypedStep.{move}
-use Rattle.typed_machine.specs.TypedWorld.{native_of, body_among, pc_after}
+use Rattle.typed_machine.specs.TypedWorld.{native_of, pc_after}
 use Rattle.type_safety.specs.Facts.{RunsNative, params_of, result_of, is_construct}
 use Rattle.type_safety.specs.Safety.{MoveFits}
-use Rattle.match_states.specs.Setting.{Setting, table_for, source_for, widths_for}
-use Rattle.match_code.specs.Standing.{emitted_at}
+use Rattle.match_states.specs.Setting.{Setting, table_for, widths_for}
 use Rattle.match_code.proofs.CodeLayout.{same_after}
-use Rattle.match_code.proofs.CodeMoves.{goes_past}
 use Rattle.follow_numbers.specs.WideCode.{IsWideCode, StandsAt, value_cells}
-use Rattle.follow_numbers.proofs.NextMoves.{AreMatched, alone_move, stands_alone, next_offset}
-use Rattle.follow_numbers.proofs.NextStates.{body_at, typed_move, is_unstuck, refs_at, cells_at}
+use Rattle.follow_numbers.proofs.NextMoves.{AreMatched}
+use Rattle.follow_numbers.proofs.NextStates.{body_at, is_unstuck, refs_at, cells_at}
 use Rattle.follow_numbers.proofs.TakenNumbers.{AsksOne, take_int, one_number, refs_of, cells_of, ints_of}
-use Rattle.follow_operands.proofs.LocalRules.{cannot_be_stuck}
 use Rattle.follow_calls.proofs.CallResults.{result_read}
+use Rattle.follow_calls.proofs.NativeMoves.{next, typed_native, offset_behind, split_native, goes_behind}
 use Rattle.follow_calls.proofs.LoudMoves.{led_there, loud_shapes, goes_loudly}
 
--- ---- the call
+-- ---- write and print
 
--- the arguments of a native are not cut
-cuts_none : (found : Native) (shapes : List Kind) → cut_arguments 0 (reverse (params_of found)) shapes ≡ []
-unfolding cut_arguments
-cuts_none native.Construct shapes = refl
-cuts_none native.Write [] = refl
-cuts_none native.Write (shape ∷ shapes) = refl
-cuts_none native.Print [] = refl
-cuts_none native.Print (shape ∷ shapes) = refl
-cuts_none native.Read shapes = refl
+module _ {setting : Setting} {state : State} {other : split.State} {used : MethodUse} (code : IsWideCode setting) (here : StandsAt setting state other (op.CallStatic used)) (found : Native) (is : native_of used.method ≡ Some found)
+    (params : used.descriptor.params ≡ params_of found) (read : result_read setting (body_at here) here.frame.pc used ≡ []) where
+  abbrev following : Option ℕ
+  following = next code here found is
 
--- a native is found by its number
-by_number : (found : Native) → library.native_of (number_of found) ≡ Some found
-by_number native.Construct = refl
-by_number native.Write = refl
-by_number native.Read = refl
-by_number native.Print = refl
+  abbrev offset : ℕ
+  offset = offset_behind code here found is params read
 
-module _ {setting : Setting} {state : State} {other : split.State} {used : MethodUse} (code : IsWideCode setting) (here : StandsAt setting state other (op.CallStatic used)) (found : Native) (is : native_of used.method ≡ Some found) where
-  abbrev next : Option ℕ
-  next = pc_after (body_at here).ops here.frame.pc
+  asks_shown : (bytes : ℤ → List ℕ) → AsksOne (shows state here.frame here.frames following bytes)
+  asks_shown bytes = record { empty = refl; null = λ below. refl; name = λ name below. refl }
 
-  -- the typed machine runs the native
-  typed_native : move setting.world state ≡ runs_native state here.frame here.frames next found here.frame.operands
-  typed_native = by_count (nat_lt (length here.frame.operands) (argument_count used)) refl
-    where
-      abbrev called : TypedMove
-      called = runs setting.world state here.frame here.frames next used.method (arguments_of used here.frame.operands) (drop (argument_count used) here.frame.operands)
-
-      by_count : (few : Bool) → nat_lt (length here.frame.operands) (argument_count used) ≡ few → move setting.world state ≡ runs_native state here.frame here.frames next found here.frame.operands
-      by_count true e = absurd (cannot_be_stuck code here (typed_move here ∙ ap (λ (few : Bool). if few then Stuck else called) e))
-      by_count false e =
-          typed_move here ∙ ap (λ (few : Bool). if few then Stuck else called) e
-          ∙ ap (λ (o : Option Native). option_map_or (λ found. runs_native state here.frame here.frames next found here.frame.operands)
-              o (runs_code setting.world state here.frame here.frames used.method (body_among setting.world.bodies used.method) (arguments_of used here.frame.operands) (drop (argument_count used) here.frame.operands))) is
-
-  module _ (params : used.descriptor.params ≡ params_of found) (read : result_read setting (body_at here) here.frame.pc used ≡ []) where
-    emitted_native : emitted_at setting (body_at here) here.frame.pc (op.CallStatic used) ≡ alone (insns.CallS (number_of found))
-    emitted_native =
-        let before = shapes_at (widths_for setting (body_at here)) (table_for setting (body_at here)) here.frame.pc in
-        let methods = setting.numbering.methods in
-        let result = result_read setting (body_at here) here.frame.pc used in
-        ap (λ (kinds : List DeclaredKind). cut_arguments 0 (reverse kinds) before ++ (alone (insns.CallS (method_id methods used.method)) ++ result)) params
-        ∙ ap (λ (cuts : List Emitted). cuts ++ (alone (insns.CallS (method_id methods used.method)) ++ result)) (cuts_none found before)
-        ∙ ap (λ (rest : List Emitted). alone (insns.CallS (method_id methods used.method)) ++ rest) read
-        ∙ ap (λ (o : Option Native). alone (insns.CallS (option_map_or number_of o (number_from 32 (is_member used.method) methods)))) is
-
-    abbrev offset_behind : ℕ
-    offset_behind = next_offset code here (insns.CallS (number_of found)) [] emitted_native
-
-    split_native : split_step.move setting.image other ≡ split_step.runs_native other here.split here.others offset_behind found
-    split_native =
-        alone_move code here (insns.CallS (number_of found)) [] emitted_native
-        ∙ ap (λ (o : Option Native). option_map_or (split_step.runs_native other here.split here.others offset_behind) o (split_step.runs_code setting.image other here.split here.others (number_of found))) (by_number found)
-
-    -- the code goes on where the next pc is
-    goes_behind : (to : ℕ) → next ≡ Some to → (last : SplitFrame) → last.method ≡ here.split.method → last.pc ≡ offset_behind → last.pc ≡ offset_of (source_for setting (body_at here)) to
-    goes_behind to is_next last method place =
-        goes_past setting (body_at here) here.split here.frame.pc (op.CallStatic used) [] (insns.CallS (number_of found)) [] code.compiled (stands_alone code here (insns.CallS (number_of found)) [] emitted_native) to
-        (sym (same_after (body_at here).ops here.frame.pc) ∙ is_next) last (record { method = method; pc = place })
-
-    -- ---- write and print
-
-    asks_shown : (bytes : ℤ → List ℕ) → AsksOne (shows state here.frame here.frames next bytes)
-    asks_shown bytes = record { empty = refl; null = λ below. refl; name = λ name below. refl }
-
-    pub shown_follows : (bytes : ℤ → List ℕ) → move setting.world state ≡ shows state here.frame here.frames next bytes here.frame.operands
-        → split_step.move setting.image other ≡ split_step.shows other here.split here.others offset_behind bytes → AreMatched setting state other
-    shown_follows bytes typed_shows split_shows =
-        let does = shows state here.frame here.frames next bytes in
-        let one = one_number code here does (asks_shown bytes) here.frame.operands typed_shows in
-        let operands = Whole one.number ∷ one.below in
-        let events = map Put (bytes one.number) in
-        let typed = typed_shows ∙ ap does one.are in
-        let there = led_there code here tick_need events state next one.below (subst (MoveFits setting.world setting.tables) typed (is_unstuck here code)) in
-        let last = split_moves.at_pc (with_cells here.split (value_cells one.below)) offset_behind in
-        goes_loudly code here tick_need events state.answers there.0 one.below (typed ∙ ap (λ to. does_next tick_need events state here.frame here.frames to one.below) there.1) last
-        (record { method = refl; ref_locals = refl; cell_locals = refl; refs = refs_of code here operands one.are; cells = refl }) (goes_behind there.0 there.1 last refl refl) other.answers here.match.answers
-        (split_shows
-        ∙ take_int here.split one.number (value_cells one.below) (ints_of code here operands one.are).0 (cells_of code here operands one.are)
-        (λ number rest. Does tick_need (map Put (bytes number)) (split.with_frames other (split_moves.at_pc rest offset_behind ∷ here.others))))
+  shown_follows : (bytes : ℤ → List ℕ) → move setting.world state ≡ shows state here.frame here.frames following bytes here.frame.operands
+      → split_step.move setting.image other ≡ split_step.shows other here.split here.others offset bytes → AreMatched setting state other
+  shown_follows bytes typed_shows split_shows =
+      let does = shows state here.frame here.frames following bytes in
+      let one = one_number code here does (asks_shown bytes) here.frame.operands typed_shows in
+      let operands = Whole one.number ∷ one.below in
+      let events = map Put (bytes one.number) in
+      let typed = typed_shows ∙ ap does one.are in
+      let there = led_there code here tick_need events state following one.below (subst (MoveFits setting.world setting.tables) typed (is_unstuck here code)) in
+      let last = split_moves.at_pc (with_cells here.split (value_cells one.below)) offset in
+      goes_loudly code here tick_need events state.answers there.0 one.below (typed ∙ ap (λ to. does_next tick_need events state here.frame here.frames to one.below) there.1) last
+      (record { method = refl; ref_locals = refl; cell_locals = refl; refs = refs_of code here operands one.are; cells = refl }) (goes_behind code here found is params read there.0 there.1 last refl refl) other.answers here.match.answers
+      (split_shows
+      ∙ take_int here.split one.number (value_cells one.below) (ints_of code here operands one.are).0 (cells_of code here operands one.are)
+      (λ number rest. Does tick_need (map Put (bytes number)) (split.with_frames other (split_moves.at_pc rest offset ∷ here.others))))
 
 -- ---- read
 
@@ -158,7 +94,7 @@ module _ {setting : Setting} {state : State} {other : split.State} {used : Metho
       ∙ ap (λ (to : Option ℕ). read_as declared.Int (top_of (option_map_or shapes to []))) (sym (same_after body.ops here.frame.pc) ∙ there.1)
       ∙ ap (read_as declared.Int) (after.top (next_byte state.answers) here.frame.operands refl)
 
-  pub read_follows : AreMatched setting state other
+  read_follows : AreMatched setting state other
   read_follows =
       let number = next_byte other.answers in
       let last = split_moves.at_pc (push_number width.Two number here.split) (offset_behind code here native.Read is params read_plainly) in
