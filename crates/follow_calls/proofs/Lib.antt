@@ -88,3 +88,9 @@ pub mod ReadStatics
 pub mod ChangedStates
 -- a static that is written
 pub mod WrittenStatics
+-- moves that need and show something
+pub mod LoudMoves
+-- the moves of both machines where a static method is a native
+pub mod NativeMoves
+-- calls of static methods that are natives
+pub mod NativeCalls
