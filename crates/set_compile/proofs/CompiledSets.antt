@@ -25,13 +25,13 @@ module _ (linked : Linked) (is : IsLinked linked) (orders : ClassOrderIsRight) w
   abbrev Has : Typed → Type 0
   Has typed = typed_among linked.code (own_method typed) ≡ Some typed
 
-  table_is : (typed : Typed) → Has typed → table_for (setting_of linked) typed.body ≡ typed.table
+  pub table_is : (typed : Typed) → Has typed → table_for (setting_of linked) typed.body ≡ typed.table
   table_is typed has = ap (λ found. option_map_or (λ (typed : Typed). typed.table) found (λ pc. None)) has
 
-  plan_is : (typed : Typed) → Has typed → plan_for (setting_of linked) typed.body ≡ linked_set.plan_for typed
+  pub plan_is : (typed : Typed) → Has typed → plan_for (setting_of linked) typed.body ≡ linked_set.plan_for typed
   plan_is typed has = ap (λ found. option_map_or linked_set.plan_for found no_plan) has
 
-  source_is : (typed : Typed) → Has typed → source_for (setting_of linked) typed.body ≡ source_in linked typed
+  pub source_is : (typed : Typed) → Has typed → source_for (setting_of linked) typed.body ≡ source_in linked typed
   source_is typed has =
       ap₂ (λ table plan. source_of typed.body table plan (ids_of (linked_set.numbering_in linked))) (table_is typed has) (plan_is typed has)
 

@@ -19,7 +19,7 @@ use Rattle.jvm_model.specs.WidthsFrame.{frame_cells, most_frame_cells}
 use Rattle.jvm_model.specs.ImageEmission.{code_of, most_code_bytes}
 use Rattle.jvm_model.specs.ImageLimits.{first_excess}
 use Rattle.jvm_model.specs.ImageNumbering.{Numbering}
-use Rattle.set_image.specs.Linked.{Linked, Typed, bodies_of, source_by, numbering_in, image_in}
+use Rattle.set_image.specs.Linked.{Linked, IsOfFiles, Typed, bodies_of, source_by, numbering_in, image_in}
 
 -- ---- the form that is built
 
@@ -103,3 +103,8 @@ pub record IsLinkedImage (linked : Linked) (image : Image) : Type 0 where
 -- there was no memory, or this is the refusal of the set
 abbrev pub IsLinkRefusal : Linked → Refusal → Type 0
 IsLinkRefusal linked why = (why.cause ≡ cause.Memory) ⊎ (link_refusal linked ≡ Some why)
+
+-- the set is that of files that no phase refuses
+pub record IsAccepted (files : List (List ℕ)) (linked : Linked) : Type 0 where
+  pub of_files : IsOfFiles files linked
+  pub accepted : link_refusal linked ≡ None
