@@ -1,1 +1,4 @@
 pub mod CallTurns
+pub mod Leaving
+pub mod Quiet
+pub mod Reads

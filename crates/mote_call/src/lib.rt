@@ -2,3 +2,8 @@
 //! methods, the natives of static methods, and what the machine throws. What each answers is said by the move of the
 //! split machine, in specs/CallTurns.antt.
 #![tactic(auto)]
+
+mod leave;
+mod throws;
+
+pub use throws::raise;
