@@ -4,3 +4,11 @@ pub mod MappedHalves
 pub mod NotStuck
 -- methods with code
 pub mod OwnCode
+-- the move of the next instruction, whatever is answered
+pub mod Answering
+-- frames that return to their callers
+pub mod Returning
+-- results of returns
+pub mod Results
+-- returns of references and of cells
+pub mod ReturnedKinds

@@ -4,6 +4,7 @@
 #![tactic(auto)]
 
 mod leave;
+mod returns;
 mod throws;
 
 pub use throws::raise;
