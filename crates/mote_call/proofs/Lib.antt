@@ -12,3 +12,9 @@ pub mod Returning
 pub mod Results
 -- returns of references and of cells
 pub mod ReturnedKinds
+-- cells in use
+pub mod UsedCells
+-- calls of methods with code
+pub mod Calling
+-- the stack after a call
+pub mod CalledStack

@@ -3,6 +3,7 @@
 //! split machine, in specs/CallTurns.antt.
 #![tactic(auto)]
 
+mod calls;
 mod leave;
 mod returns;
 mod throws;

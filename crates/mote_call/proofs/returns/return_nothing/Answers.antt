@@ -6,9 +6,13 @@ use Rattle.mote_model.specs.Picture.{cell_of}
 use Rattle.mote_model.specs.State.{whole}
 use Rattle.mote_exec.specs.Steps.{with_stack}
 use Rattle.mote_call.specs.Leaving.{HasCaller, returned}
-use Rattle.mote_call.proofs.Results.{called, resumed_is, same_kept}
+use Rattle.mote_call.proofs.Results.{called, ends, resumed_is, same_kept}
 use Rattle.mote_call.proofs.Returning.{goes_back, has_caller}
 use Rattle.mote_call.proofs.returns.return_nothing.Goals as goal
+
+pub returns-then-frame_count-eq1 : goal.returns-then-frame_count-eq1
+returns-then-frame_count-eq1 g c left =
+    (ends g.shown c.args.mote.now (insns.Ret None) c.requires.1 (λ caller. caller) (λ answers. refl) c.frame_count.result c.frame_count.ensures.value c.if-frame_count-eq1.true, refl)
 
 pub leave-requires : goal.leave-requires
 leave-requires g c =
