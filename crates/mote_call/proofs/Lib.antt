@@ -18,3 +18,5 @@ pub mod UsedCells
 pub mod Calling
 -- the stack after a call
 pub mod CalledStack
+-- bytes that are shown, and what a console reads
+pub mod Consoles

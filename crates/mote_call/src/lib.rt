@@ -6,6 +6,7 @@
 mod calls;
 mod leave;
 mod returns;
+mod talk;
 mod throws;
 
 pub use throws::raise;
