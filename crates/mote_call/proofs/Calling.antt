@@ -24,6 +24,7 @@ use Rattle.mote_exec.proofs.GoingOn.{cells_counted, refs_counted}
 use Rattle.mote_call.specs.CallTurns.{with_answers}
 use Rattle.mote_call.specs.Quiet.{GoesTo}
 use Rattle.mote_call.proofs.Answering.{move_with, moves_with, stays_with, step_of}
+use Rattle.mote_call.proofs.OwnCode.{of_grammar}
 use Rattle.mote_call.proofs.NotStuck.{tested, used_there}
 
 both_true : (first second : Bool) → (if first then second else false) ≡ true → (first ≡ true) × (second ≡ true)
@@ -91,8 +92,8 @@ module _ (shown : Shown) (old : Memory) (id : ℕ) (ready : IsReady shown old (i
   pub cell_arguments : let youngest = youngest_frame old.region in callee.sig.cells ≤ length youngest.cells
   cell_arguments = omega (arith, enough_cells, cells_counted shown old old insn (frame.pc + ready.next.size) (step_of shown old insn ready))
 
-  pub of_grammar : IsMethod shown.image.types callee
-  of_grammar = own_method (IsMethod shown.image.types) shown.image id callee (all_of_each (IsMethod shown.image.types) [] shown.image.methods ready.sound.image_is.methods_are) found
+  pub callee_grammar : IsMethod shown.image.types callee
+  callee_grammar = of_grammar shown.image ready.sound id callee found
 
   -- the method that is found is the callee
   pub is_callee : (image : Image) (method : Method) → shown.image ≡ image → method_at image id ≡ Some method → method ≡ callee

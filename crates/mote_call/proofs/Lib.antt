@@ -20,3 +20,9 @@ pub mod Calling
 pub mod CalledStack
 -- bytes that are shown, and what a console reads
 pub mod Consoles
+-- answers that a console may give
+pub mod GivenAnswers
+-- code behind a call
+pub mod CallCode
+-- natives that show bytes
+pub mod Showing

@@ -8,6 +8,10 @@ use Rattle.image_instr.specs.declared.insn.MInsn.{MInsn}
 use Rattle.image_instr.specs.Reading.{insn_at}
 use Rattle.image_form.specs.declared.record.Image.{Image}
 use Rattle.image_form.specs.declared.record.Method.{Method}
+use Rattle.image_form.specs.Grammar.{IsMethod}
+use Rattle.split_safety.specs.Safety.{IsSound}
+use Rattle.split_safety.proofs.facts.Lists.{all_of_each}
+use Rattle.split_safety.proofs.moves.Throwing.{own_method}
 use Rattle.mote_stack.specs.Frames.{Frame}
 use Rattle.mote_model.specs.SplitState.{method_at}
 use Rattle.mote_call.specs.Leaving.{IsInCode, behind, code_of}
@@ -25,3 +29,6 @@ behind_is image frame in_code =
     let next : Option (MInsn × ℕ) → ℕ = λ found. option_map_or (λ (found : MInsn × ℕ). frame.pc + found.1) found 0 in
     let code : code_of image frame.method ≡ in_code.method.code = ap (λ (o : Option Method). option_map_or (λ (method : Method). method.code) o []) in_code.found in
     ap (λ code. next (insn_at (drop frame.pc code))) code ∙ ap next in_code.there
+
+pub of_grammar : (image : Image) → IsSound image → (id : ℕ) (method : Method) → method_at image id ≡ Some method → IsMethod image.types method
+of_grammar image sound id method found = own_method (IsMethod image.types) image id method (all_of_each (IsMethod image.types) [] image.methods sound.image_is.methods_are) found

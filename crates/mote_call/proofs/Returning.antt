@@ -27,6 +27,7 @@ use Rattle.mote_call.specs.CallTurns.{with_answers}
 use Rattle.mote_call.specs.Leaving.{IsInCode, HasCaller, HasRoom, behind, returned}
 use Rattle.mote_call.specs.Quiet.{QuietStep}
 use Rattle.mote_call.proofs.Answering.{move_with, moves_with, stays_with, step_of}
+use Rattle.mote_call.proofs.OwnCode.{of_grammar}
 use Rattle.mote_call.proofs.NotStuck.{IsHeld, held, used_there}
 
 module _ (shown : Shown) (old : Memory) (insn : MInsn) (ready : IsReady shown old insn) (caller : Frame) (rest : List Frame) (waits : ready.next.others ≡ caller ∷ rest) where
@@ -64,20 +65,19 @@ module _ (shown : Shown) (old : Memory) (insn : MInsn) (ready : IsReady shown ol
       runs_on : IsHeld shown.image (at_pc resumed next_pc)
       runs_on = held shown.image ready.sound next (at_pc resumed next_pc) rest refl there.2
 
-      of_grammar : IsMethod shown.image.types runs_on.method
-      of_grammar = own_method (IsMethod shown.image.types) shown.image caller.method runs_on.method (all_of_each (IsMethod shown.image.types) [] shown.image.methods ready.sound.image_is.methods_are) runs_on.found
-
       code_is : code_from shown.image resumed ≡ drop caller.pc runs_on.method.code
       code_is = ap (λ (o : Option Method). drop caller.pc (option_map_or (λ (method : Method). method.code) o [])) runs_on.found
 
       in_code : IsInCode shown.image (shown_frame shown.image shown.naming caller)
-      in_code = record {
+      in_code =
+          let grammar = of_grammar shown.image ready.sound caller.method runs_on.method runs_on.found in
+          record {
         method = runs_on.method;
         found = runs_on.found;
         insn = there.0.0;
         size = there.0.1;
         there = ap insn_at (sym code_is) ∙ there.1;
-        inside = omega (arith, runs_on.inside, of_grammar.code_fits);
+        inside = omega (arith, runs_on.inside, grammar.code_fits);
       }
 
       pub has_caller : HasCaller shown.image old.region

@@ -5,6 +5,7 @@
 
 mod calls;
 mod leave;
+mod natives;
 mod returns;
 mod talk;
 mod throws;

@@ -6,7 +6,7 @@ use Rattle.mote_model.specs.SplitState.{frame_cells, method_at, view_of, with_fr
 use Rattle.mote_exec.specs.Steps.{with_stack}
 use Rattle.mote_call.specs.CallTurns.{stack_of}
 use Rattle.mote_call.specs.Quiet.{GoesTo}
-use Rattle.mote_call.proofs.Calling.{callee, called_frames, cell_arguments, found, goes, is_callee, of_grammar, ref_arguments}
+use Rattle.mote_call.proofs.Calling.{callee, called_frames, cell_arguments, found, goes, is_callee, callee_grammar, ref_arguments}
 use Rattle.mote_call.proofs.CalledStack.{bodies_are, body_there, has_none, has_place, in_bodies, needs, pictured_call, used}
 use Rattle.mote_call.proofs.calls.call_own.Goals as goal
 
@@ -48,7 +48,7 @@ push_frame-pushed-requires-clause-locals g c =
     let method = callee g.shown old id ready own in
     let same = is_callee g.shown old id ready own c.image.result.now c.own_method-callee.result.now (c.requires.0 ∙ sym c.image.ensures.all) c.own_method-callee.ensures in
     let body : slice_index old.region.bodies id ≡ method.body = ap (λ bodies. slice_index bodies id) (bodies_are g.shown old id ready own) ∙ body_there g.shown.image id method (found g.shown old id ready own) in
-    let grammar = of_grammar g.shown old id ready own in
+    let grammar = callee_grammar g.shown old id ready own in
     omega (arith, grammar.locals_fit, body, ap (λ (method : Method). method.ref_locals) same, ap (λ (method : Method). method.cell_locals) same)
 
 pub push_frame-pushed-requires-clause-ref_locals : goal.push_frame-pushed-requires-clause-ref_locals
@@ -58,7 +58,7 @@ push_frame-pushed-requires-clause-ref_locals g c =
     let ready = c.requires.1.0 in
     let own = c.requires.1.1 in
     let same = is_callee g.shown old id ready own c.image.result.now c.own_method-callee.result.now (c.requires.0 ∙ sym c.image.ensures.all) c.own_method-callee.ensures in
-    let grammar = of_grammar g.shown old id ready own in
+    let grammar = callee_grammar g.shown old id ready own in
     omega (arith, c.from.ensures, grammar.refs_cover, ap (λ (method : Method). method.ref_locals) same, ap (λ (method : Method). method.sig.refs) same)
 
 pub push_frame-pushed-requires-clause-cell_locals : goal.push_frame-pushed-requires-clause-cell_locals
@@ -68,7 +68,7 @@ push_frame-pushed-requires-clause-cell_locals g c =
     let ready = c.requires.1.0 in
     let own = c.requires.1.1 in
     let same = is_callee g.shown old id ready own c.image.result.now c.own_method-callee.result.now (c.requires.0 ∙ sym c.image.ensures.all) c.own_method-callee.ensures in
-    let grammar = of_grammar g.shown old id ready own in
+    let grammar = callee_grammar g.shown old id ready own in
     omega (arith, grammar.cells_cover, ap (λ (method : Method). method.cell_locals) same, ap (λ (method : Method). method.sig.cells) same)
 
 pub push_frame-pushed-requires-clause-ref_args : goal.push_frame-pushed-requires-clause-ref_args
