@@ -26,3 +26,7 @@ pub mod GivenAnswers
 pub mod CallCode
 -- natives that show bytes
 pub mod Showing
+-- numbers of which natives show bytes
+pub mod ShownNumbers
+-- the native that reads a byte
+pub mod ReadBytes

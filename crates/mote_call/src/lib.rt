@@ -7,7 +7,9 @@ mod calls;
 mod leave;
 mod natives;
 mod returns;
+mod step;
 mod talk;
 mod throws;
 
+pub use step::step_call;
 pub use throws::raise;
