@@ -18,8 +18,6 @@ use Rattle.mote_model.specs.SplitState.{State, frame_cells, method_at, with_fram
 use Rattle.mote_model.specs.SplitStep.{frame_for, has_arguments, runs_code, runs_method, runs_native, without_arguments}
 use Rattle.split_safety.specs.Ready.{Shown, IsReady}
 use Rattle.split_safety.specs.Safety.{StaysReached}
-use Rattle.split_safety.proofs.facts.Lists.{all_of_each}
-use Rattle.split_safety.proofs.moves.Throwing.{own_method}
 use Rattle.mote_exec.proofs.GoingOn.{cells_counted, refs_counted}
 use Rattle.mote_call.specs.CallTurns.{with_answers}
 use Rattle.mote_call.specs.Quiet.{GoesTo}

@@ -30,3 +30,5 @@ pub mod Showing
 pub mod ShownNumbers
 -- the native that reads a byte
 pub mod ReadBytes
+-- turns that say nothing, over a console
+pub mod QuietTurns

@@ -7,7 +7,6 @@ use Rattle.dialogue.specs.Answers.{Answers}
 use Rattle.image_instr.specs.declared.insn.MInsn.{MInsn}
 use Rattle.image_instr.specs.Reading.{insn_at}
 use Rattle.image_form.specs.declared.record.Method.{Method}
-use Rattle.image_form.specs.Grammar.{IsMethod}
 use Rattle.account.specs.Account.{no_need}
 use Rattle.mote_stack.specs.Frames.{Stack}
 use Rattle.mote_model.specs.declared.memory.State.{State as Memory}
@@ -19,8 +18,6 @@ use Rattle.mote_model.specs.SplitState.{State, with_frames}
 use Rattle.mote_model.specs.SplitStep.{code_from, resumes}
 use Rattle.split_safety.specs.Ready.{Shown, IsReady}
 use Rattle.split_safety.specs.Safety.{StaysReached}
-use Rattle.split_safety.proofs.facts.Lists.{all_of_each}
-use Rattle.split_safety.proofs.moves.Throwing.{own_method}
 use Rattle.mote_exec.specs.Steps.{with_stack}
 use Rattle.mote_exec.proofs.GoingOn.{was}
 use Rattle.mote_call.specs.CallTurns.{with_answers}

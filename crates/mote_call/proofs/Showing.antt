@@ -1,5 +1,5 @@
 -- A native that shows bytes for the number on top.
-use Rattle.std.proofs.Common.{◌≡◌, ℕ, suc, ◌+◌, ◌≤◌, true, false, List, [], ◌∷◌, length, map, drop, Option, None, refl, sym, ap, ap₂, subst, ◌∙◌, arith}
+use Rattle.std.proofs.Common.{◌≡◌, ℕ, suc, ◌+◌, false, List, [], ◌∷◌, map, Option, refl, sym, ap, ap₂, subst, ◌∙◌, arith}
 use Rattle.std.specs.List.{AllByRecursion}
 use Rattle.dialogue.specs.Answers.{MayGive}
 use Rattle.dialogue.specs.Dialogue.{Item, putting}
@@ -14,7 +14,6 @@ use Rattle.mote_stack.specs.Frames.{youngest_frame, without_last}
 use Rattle.mote_model.specs.declared.ending.Ending.TheVariants.{Spent, ConsoleFault}
 use Rattle.mote_model.specs.declared.memory.State.{State as Memory}
 use Rattle.mote_model.specs.declared.turn.Turn.TheVariants.{On, Ends}
-use Rattle.mote_model.specs.State.{whole}
 use Rattle.mote_model.specs.Picture.{Pictures, KeepsFrame}
 use Rattle.split_safety.specs.Ready.{Shown}
 use Rattle.mote_exec.specs.Steps.{stepped, with_stack, with_taken}

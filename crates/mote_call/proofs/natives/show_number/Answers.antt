@@ -1,4 +1,4 @@
-use Rattle.std.proofs.Common.{◌≡◌, ◌≤◌, suc, ◌-◌, ◌+◌, length, refl, sym, ap, subst, ◌∙◌, arith}
+use Rattle.std.proofs.Common.{◌≡◌, suc, ◌-◌, ◌+◌, refl, sym, ap, subst, ◌∙◌, arith}
 use Rattle.image_instr.specs.declared.insn.MInsn.TheVariants as insns
 use Rattle.image_form.specs.declared.record.Image.{Image}
 use Rattle.mote_model.specs.declared.memory.State.{State as Memory}
