@@ -20,7 +20,7 @@ use Rattle.split_safety.specs.Ready.{Shown, IsReady}
 use Rattle.split_safety.specs.Safety.{StaysReached}
 use Rattle.mote_exec.proofs.GoingOn.{cells_counted, refs_counted}
 use Rattle.mote_call.specs.CallTurns.{with_answers}
-use Rattle.mote_call.specs.Quiet.{GoesTo}
+use Rattle.mote_call.specs.Quiet.{MustDo}
 use Rattle.mote_call.proofs.Answering.{move_with, moves_with, stays_with, step_of}
 use Rattle.mote_call.proofs.OwnCode.{of_grammar}
 use Rattle.mote_call.proofs.NotStuck.{tested, used_there}
@@ -67,7 +67,7 @@ module _ (shown : Shown) (old : Memory) (id : ℕ) (ready : IsReady shown old (i
   has : (has_arguments callee.sig frame ≡ true) × StaysReached shown.image (made shown.state)
   has = tested shown.image (has_arguments callee.sig frame) (made shown.state) there.2
 
-  pub goes : GoesTo shown (call_need (frame_cells callee)) (with_frames shown.state called_frames)
+  pub goes : MustDo shown (call_need (frame_cells callee)) (with_frames shown.state called_frames)
   goes answers =
       let state = with_answers shown.state answers in
       moves_with shown insn ready.next answers ∙ runs answers ∙ ap (λ found. using found (λ callee. runs_method state frame others id callee)) found

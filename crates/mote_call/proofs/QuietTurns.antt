@@ -9,10 +9,10 @@ use Rattle.mote_model.specs.declared.turn.Turn.TheVariants.{On, Throws, Ends}
 use Rattle.mote_model.specs.SplitState.{State}
 use Rattle.split_safety.specs.Ready.{Shown}
 use Rattle.mote_call.specs.CallTurns.{CallTurn, MayMove, with_answers}
-use Rattle.mote_call.specs.Quiet.{GoesTo, QuietTurn}
+use Rattle.mote_call.specs.Quiet.{MustDo, QuietTurn}
 use Rattle.mote_call.proofs.GivenAnswers.{some_answers, may-some}
 
-may_move : (at : Shown) (need : Need) (next : State) → GoesTo at need next → (before : Option (List ℕ)) → MayMove at.image at.state before need []
+may_move : (at : Shown) (need : Need) (next : State) → MustDo at need next → (before : Option (List ℕ)) → MayMove at.image at.state before need []
 may_move at need next goes before = record {
   next = with_answers next (some_answers before);
   answers = some_answers before;

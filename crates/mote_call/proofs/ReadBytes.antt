@@ -50,8 +50,8 @@ module _ (shown : Shown) (old : Memory) (ready : IsReady shown old (insns.CallS 
       let keeps = subst (AllByRecursion (KeepsFrame shown.naming)) ready.next.frames_are pictures.kept_frames in
       let cells = ap (λ cells. cells ++ cells_of width.Two number) (own_cells shown old old insn pc step) ∙ pushed frame.cells.locals frame.cells.operands (cells_of width.Two number) in
       let region = ap (λ (memory : Memory). memory.region) e
-          ∙ ap (λ pc. let youngest = youngest_frame old.region in stepped old.region pc youngest.refs (youngest.cells ++ cells_of width.Two number)) (behind_call shown old 2 ready)
-          ∙ ap₂ (λ refs cells. stepped old.region pc refs cells) (own_refs shown old old insn pc step) cells in
+      ∙ ap (λ pc. let youngest = youngest_frame old.region in stepped old.region pc youngest.refs (youngest.cells ++ cells_of width.Two number)) (behind_call shown old 2 ready)
+      ∙ ap₂ (λ refs cells. stepped old.region pc refs cells) (own_refs shown old old insn pc step) cells in
       pictured shown old new insn pc step pc (with_read number) (push_number width.Two number frame) refl refl keeps.0 region
       (ap (λ (memory : Memory). memory.ref_statics.items) e ∙ pictures.ref_statics) (ap (λ (memory : Memory). memory.cell_statics.items) e ∙ pictures.cell_statics) pictures.kept_statics
 
@@ -76,16 +76,18 @@ module _ {C : Type 0} (left shown noted : C → Option (List ℕ)) (faults : C �
   }
 
   pub reads_broke : (before after : C) (ticks some : ℕ) → ticks ≡ suc some → BrokeOff left shown noted faults room before after (item.Get ∷ []) → CallTurn left shown noted faults room at old old before after ticks ticks (Ends ConsoleFault)
-  reads_broke before after ticks some tick broke =
-      (record {
-        need = tick_need;
-        events = Get ∷ [];
-        moves = may_read (left before);
-        places_nothing = refl;
-        calls_nothing = refl;
-        there = λ e. omega (arith, tick);
-        broke = broke;
-      }, refl)
+  reads_broke before after ticks some tick broke = (
+    record {
+      need = tick_need;
+      events = Get ∷ [];
+      moves = may_read (left before);
+      places_nothing = refl;
+      calls_nothing = refl;
+      there = λ e. omega (arith, tick);
+      broke = broke;
+    },
+    refl,
+  )
 
   pub reads_on : (new : Memory) (before after : C) (ticks remaining : ℕ) (number : ℤ) → ticks ≡ suc remaining
       → new ≡ with_stack old (let youngest = youngest_frame old.region in stepped old.region (behind at.image youngest) youngest.refs (youngest.cells ++ cells_of width.Two number))

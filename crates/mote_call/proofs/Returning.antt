@@ -69,13 +69,13 @@ module _ (shown : Shown) (old : Memory) (insn : MInsn) (ready : IsReady shown ol
       in_code =
           let grammar = of_grammar shown.image ready.sound caller.method runs_on.method runs_on.found in
           record {
-        method = runs_on.method;
-        found = runs_on.found;
-        insn = there.0.0;
-        size = there.0.1;
-        there = ap insn_at (sym code_is) ∙ there.1;
-        inside = omega (arith, runs_on.inside, grammar.code_fits);
-      }
+            method = runs_on.method;
+            found = runs_on.found;
+            insn = there.0.0;
+            size = there.0.1;
+            there = ap insn_at (sym code_is) ∙ there.1;
+            inside = omega (arith, runs_on.inside, grammar.code_fits);
+          }
 
       pub has_caller : HasCaller shown.image old.region
       has_caller = subst (HasCaller shown.image) (sym stack_is) (record { two = omega (arith, length-map rest (shown_frame shown.image shown.naming)); in_code = in_code })

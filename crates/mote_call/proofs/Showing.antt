@@ -52,8 +52,8 @@ module _ (at : Shown) (old : Memory) (bytes : List ℕ) (it : Shows at old bytes
       let keeps = subst (AllByRecursion (KeepsFrame at.naming)) next.frames_are pictures.kept_frames in
       let cells = ap (without_last 2) (own_cells at old old insn pc step) ∙ rest next.frame.cells.locals next.frame.cells.operands 2 it.enough in
       let region = ap (λ (memory : Memory). memory.region) e
-          ∙ ap (λ pc. let youngest = youngest_frame old.region in stepped old.region pc youngest.refs (without_last 2 youngest.cells)) (behind_call at old it.method ready)
-          ∙ ap₂ (λ refs cells. stepped old.region pc refs cells) (own_refs at old old insn pc step) cells in
+      ∙ ap (λ pc. let youngest = youngest_frame old.region in stepped old.region pc youngest.refs (without_last 2 youngest.cells)) (behind_call at old it.method ready)
+      ∙ ap₂ (λ refs cells. stepped old.region pc refs cells) (own_refs at old old insn pc step) cells in
       pictured at old new insn pc step pc (without_number at insn next) (with_taken 2 next.frame) refl refl keeps.0 region
       (ap (λ (memory : Memory). memory.ref_statics.items) e ∙ pictures.ref_statics) (ap (λ (memory : Memory). memory.cell_statics.items) e ∙ pictures.cell_statics) pictures.kept_statics
 
@@ -78,21 +78,23 @@ module _ {C : Type 0} (left shown noted : C → Option (List ℕ)) (faults : C �
 
   pub shows_broke : (new : Memory) (before after : C) (ticks some remaining : ℕ) → ticks ≡ suc some → BrokeOff left shown noted faults room before after (putting bytes) → new.collections ≡ old.collections
       → CallTurn left shown noted faults room at old new before after ticks remaining (Ends ConsoleFault)
-  shows_broke new before after ticks some remaining tick broke same =
-      (record {
-        need = tick_need;
-        events = map Put bytes;
-        moves = record {
-          next = with_answers (without_number at (insns.CallS it.method) it.ready.next) (some_answers (left before));
-          answers = some_answers (left before);
-          may = may-some (left before);
-          goes = it.shows (some_answers (left before));
-        };
-        places_nothing = refl;
-        calls_nothing = refl;
-        there = λ e. omega (arith, tick);
-        broke = subst (BrokeOff left shown noted faults room before after) (sym (said_is bytes)) broke;
-      }, same)
+  shows_broke new before after ticks some remaining tick broke same = (
+    record {
+      need = tick_need;
+      events = map Put bytes;
+      moves = record {
+        next = with_answers (without_number at (insns.CallS it.method) it.ready.next) (some_answers (left before));
+        answers = some_answers (left before);
+        may = may-some (left before);
+        goes = it.shows (some_answers (left before));
+      };
+      places_nothing = refl;
+      calls_nothing = refl;
+      there = λ e. omega (arith, tick);
+      broke = subst (BrokeOff left shown noted faults room before after) (sym (said_is bytes)) broke;
+    },
+    same,
+  )
 
   pub shows_on : (new : Memory) (before after : C) (ticks remaining : ℕ) → ticks ≡ suc remaining
       → new ≡ with_stack old (let youngest = youngest_frame old.region in stepped old.region (behind at.image youngest) youngest.refs (without_last 2 youngest.cells))

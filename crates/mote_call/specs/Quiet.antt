@@ -16,14 +16,14 @@ use Rattle.split_safety.specs.Ready.{Shown}
 use Rattle.mote_call.specs.CallTurns.{with_answers, stack_of, MustEnd}
 
 -- whatever is answered, the move goes on to the state, with the same answers to come
-abbrev pub GoesTo : Shown → Need → State → Type 0
-GoesTo at need next = (answers : Answers) → move at.image (with_answers at.state answers) ≡ Does need [] (with_answers next answers)
+abbrev pub MustDo : Shown → Need → State → Type 0
+MustDo at need next = (answers : Answers) → move at.image (with_answers at.state answers) ≡ Does need [] (with_answers next answers)
 
 -- the step was done
 pub record QuietGoes (at : Shown) (old new : Memory) (ticks rest : ℕ) : Type 0 where
   pub need : Need
   pub next : State
-  pub goes : GoesTo at need next
+  pub goes : MustDo at need next
   pub places_nothing : need.placed ≡ None
   pub fits : has_room (stack_of at.size) (view_of at.image at.state) need.frame ≡ true
   pub tick : TakesTick need.tick ticks rest
@@ -34,7 +34,7 @@ pub record QuietGoes (at : Shown) (old new : Memory) (ticks rest : ℕ) : Type 0
 pub record QuietSpent (at : Shown) (old new : Memory) (ticks rest : ℕ) : Type 0 where
   pub need : Need
   pub next : State
-  pub goes : GoesTo at need next
+  pub goes : MustDo at need next
   pub tick : need.tick ≡ true
   pub none : ticks ≡ 0
   pub same : IsUnchanged old new ticks rest
@@ -42,7 +42,7 @@ pub record QuietSpent (at : Shown) (old new : Memory) (ticks rest : ℕ) : Type 
 -- a tick is left, but the frame of the method does not fit the stack
 pub record QuietWants (at : Shown) (cells used : ℕ) (old new : Memory) (ticks rest : ℕ) : Type 0 where
   pub next : State
-  pub goes : GoesTo at (call_need cells) next
+  pub goes : MustDo at (call_need cells) next
   pub there : 0 < ticks
   pub lacks : has_room (stack_of at.size) (view_of at.image at.state) (Some cells) ≡ false
   pub used_is : let view = view_of at.image at.state in used ≡ view.frames

@@ -119,7 +119,13 @@ pub(crate) fn print<C: Console>(
 {
     let mut buffer = Buffer::new();
     let number = top_number(&mote.region);
-    show_number(mote, checked, buffer.format(number).as_bytes(), console, left)
+    show_number(
+        mote,
+        checked,
+        buffer.format(number).as_bytes(),
+        console,
+        left,
+    )
 }
 
 /// read: the value of the next byte is pushed.

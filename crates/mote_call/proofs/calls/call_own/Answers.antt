@@ -5,7 +5,7 @@ use Rattle.mote_stack.specs.Frames.{Stack, with_frame}
 use Rattle.mote_model.specs.SplitState.{frame_cells, method_at, view_of, with_frames}
 use Rattle.mote_exec.specs.Steps.{with_stack}
 use Rattle.mote_call.specs.CallTurns.{stack_of}
-use Rattle.mote_call.specs.Quiet.{GoesTo}
+use Rattle.mote_call.specs.Quiet.{MustDo}
 use Rattle.mote_call.proofs.Calling.{callee, called_frames, cell_arguments, found, goes, is_callee, callee_grammar, ref_arguments}
 use Rattle.mote_call.proofs.CalledStack.{bodies_are, body_there, has_none, has_place, in_bodies, needs, pictured_call, used}
 use Rattle.mote_call.proofs.calls.call_own.Goals as goal
@@ -120,7 +120,7 @@ returns-in-Err g c =
     let next = with_frames g.shown.state (called_frames g.shown old id ready own) in
     record {
       next = next;
-      goes = subst (λ cells. GoesTo g.shown (call_need cells) next) (sym cells) (goes g.shown old id ready own);
+      goes = subst (λ cells. MustDo g.shown (call_need cells) next) (sym cells) (goes g.shown old id ready own);
       there = omega (arith, c.if-left-eq0.false);
       lacks = subst (λ cells. has_room (stack_of g.shown.size) (view_of g.shown.image g.shown.state) (Some cells) ≡ false) (sym cells) (has_none g.shown old id ready own c.in-Err.ensures.0);
       used_is = ap (λ why. why.used) c.in-Err.ensures.1 ∙ used g.shown old id ready own;
