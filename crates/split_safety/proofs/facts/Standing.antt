@@ -23,7 +23,7 @@ use Rattle.split_safety.proofs.facts.Lists.{all_append}
 use Rattle.split_safety.proofs.facts.Numbers.{PushesInt, found_sized}
 
 -- an instruction is found inside the code alone
-found_inside : (code : List ℕ) (pc : ℕ) (found : MInsn × ℕ) → insn_at (drop pc code) ≡ Some found → pc < length code
+pub found_inside : (code : List ℕ) (pc : ℕ) (found : MInsn × ℕ) → insn_at (drop pc code) ≡ Some found → pc < length code
 found_inside code pc found e =
     ⊎_elim (λ lt. lt) (λ le. absurd (none-some found (sym (ap insn_at (drop_of_length-le code le)) ∙ e))) (cases_lt pc (length code))
 

@@ -168,7 +168,7 @@ module _ (image : Image) (state : State) (statics : HasStatics image state) (res
 
 -- ---- returns
 
-first_waits : (image : Image) (frame caller : Frame) (others : List Frame) → AreWaiting image frame (caller ∷ others) → IsWaiting image (result_of image frame) caller × AreWaiting image caller others
+pub first_waits : (image : Image) (frame caller : Frame) (others : List Frame) → AreWaiting image frame (caller ∷ others) → IsWaiting image (result_of image frame) caller × AreWaiting image caller others
 unfolding AreWaiting
 first_waits image frame caller others wait = wait
 

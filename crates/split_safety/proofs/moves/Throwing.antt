@@ -33,7 +33,7 @@ module _ (image : Image) (sound : IsSound image) where
       none_in type frame.pc (method_at image frame.method) (λ method is.
       own_method (λ (m : Method). m.handlers ≡ []) image frame.method method (more-all RunsMethod (λ (m : Method). m.handlers ≡ []) (λ m runs. runs.handlers) image.methods sound.runs) is)
 
-  none_catches : (type name : ℕ) (frames : List Frame) → caught image type name frames ≡ None
+  pub none_catches : (type name : ℕ) (frames : List Frame) → caught image type name frames ≡ None
   unfolding caught
   none_catches type name [] = refl
   none_catches type name (frame ∷ others) =

@@ -1,0 +1,5 @@
+pub mod CallTurns
+pub mod Leaving
+pub mod Quiet
+pub mod Reads
+pub mod Shows
