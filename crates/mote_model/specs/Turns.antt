@@ -2,6 +2,7 @@
 use Rattle.std.specs.Prelude.{◌≡◌, ℕ, suc, ◌+◌, ◌<◌, Bool, true, false, List, [], Option, Some, None}
 use Rattle.dialogue.specs.Answers.{Answers, MayGive}
 use Rattle.dialogue.specs.Dialogue.{gets}
+use Rattle.library.specs.Classes.{first_own}
 use Rattle.image_form.specs.declared.record.Image.{Image}
 use Rattle.account.specs.Account.{Event, Need, Does, Stops, no_need}
 use Rattle.mote_model.specs.declared.ending.Ending.{Ending}
@@ -47,9 +48,10 @@ module _ (image : Image) (naming : Naming) (size : ℕ) (move : SplitMove) where
     pub none : left ≡ 0
     pub same : IsUnchanged old new left after
 
-  -- the machine throws an object of a class, which it makes
+  -- the machine throws an object of a class of the library, which it makes
   pub record PlainThrows (state : State) (class : ℕ) (old new : Memory) (left after : ℕ) : Type 0 where
     pub is_throw : move ≡ throws image state state.frames class
+    pub of_library : class < first_own
     pub same : IsUnchanged old new left after
 
   abbrev pub PlainEnds : (old new : Memory) (left after : ℕ) → Ending → Type 0

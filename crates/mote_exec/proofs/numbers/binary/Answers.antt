@@ -103,5 +103,6 @@ returns-in-None g c =
     let here_is = move_here g.shown memory memory insn c.args.next c.requires in
     λ ticks. record {
       is_throw = here_is ∙ taken ∙ ap moves (sym applied_is ∙ c.in-None.is) ∙ ap (λ frames. throws g.shown.image g.shown.state frames 4) (sym next.frames_are);
+      of_library = omega arith;
       same = record { memory = refl; ticks = refl };
     }
