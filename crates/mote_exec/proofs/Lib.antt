@@ -22,7 +22,6 @@ pub mod TakenReferences
 pub mod SameObjects
 -- tests of references
 pub mod ReferenceTesting
-
 -- the instruction at the pc of a step
 pub mod Standing
 -- a step that reads statics

@@ -1,5 +1,5 @@
 -- A linked set is compiled.
-use Rattle.std.proofs.Common.{◌≡◌, List, [], ◌∷◌, map, Some, None, refl, sym, ap, ap₂, subst, ◌∙◌}
+use Rattle.std.proofs.Common.{◌≡◌, ℕ, List, [], ◌∷◌, map, Some, None, refl, sym, ap, ap₂, subst, ◌∙◌}
 use Rattle.std.specs.List.{AllByRecursion}
 use Rattle.std.specs.Option.{option_map_or}
 use Rattle.body_form.specs.declared.body.Body.{Body}
@@ -25,7 +25,7 @@ module _ (linked : Linked) (is : IsLinked linked) (orders : ClassOrderIsRight) w
   abbrev Has : Typed → Type 0
   Has typed = typed_among linked.code (own_method typed) ≡ Some typed
 
-  pub table_is : (typed : Typed) → Has typed → table_for (setting_of linked) typed.body ≡ typed.table
+  table_is : (typed : Typed) → Has typed → table_for (setting_of linked) typed.body ≡ typed.table
   table_is typed has = ap (λ found. option_map_or (λ (typed : Typed). typed.table) found (λ pc. None)) has
 
   pub plan_is : (typed : Typed) → Has typed → plan_for (setting_of linked) typed.body ≡ linked_set.plan_for typed
@@ -50,7 +50,7 @@ module _ (linked : Linked) (is : IsLinked linked) (orders : ClassOrderIsRight) w
   each_compiled [] found own = tt
   each_compiled (typed ∷ code) found own = (compiled_body typed found.0 own.0, each_compiled code found.1 own.1)
 
-  pub all_compiled : AllByRecursion (IsCompiledBody (setting_of linked)) (linked_set.bodies_of linked)
+  all_compiled : AllByRecursion (IsCompiledBody (setting_of linked)) (linked_set.bodies_of linked)
   all_compiled =
       each_compiled linked.code (all_found linked.classes linked.code is.are_bodies) (own_code linked.classes linked.code is.are_bodies (orders linked.classes is.closed))
 
@@ -61,27 +61,28 @@ module _ (linked : Linked) (is : IsLinked linked) (orders : ClassOrderIsRight) w
       let least = typed.0 in
       (subst (IsRight linked.classes one.body) (sym (table_is one found.0)) least.right, each_typed code found.1 typed.1)
 
-  pub are_typed : AreTyped (world_of linked) (tables_of linked)
+  are_typed : AreTyped (world_of linked) (tables_of linked)
   are_typed = each_typed linked.code (all_found linked.classes linked.code is.are_bodies) is.are_typed
+
+-- a set of files, with its types, has passed the phases up to that of types
+pub set_typed : ClassOrderIsRight → (files : List (List ℕ)) (linked : Linked) → IsOfFiles files linked → safety.IsTyped files (world_of linked) (tables_of linked)
+set_typed orders files linked of =
+    let is = of.is_linked in
+    record {
+      records = of.records;
+      codes = of.codes;
+      closed = is.closed;
+      linked = of.links;
+      bodies = is.are_bodies;
+      types = are_typed linked is orders;
+    }
 
 pub sets_compile : PhasesGiveFacts → ClassOrderIsRight → SetsCompile
 sets_compile facts orders files linked of =
-    let is = of.is_linked in
-    let typed = are_typed linked is orders in
+    let typed = set_typed orders files linked of in
     record {
-      typed = record {
-        closed = is.closed;
-        facts = facts files (world_of linked) (tables_of linked) (record {
-          records = of.records;
-          codes = of.codes;
-          closed = is.closed;
-          linked = of.links;
-          bodies = is.are_bodies;
-          types = typed;
-        });
-        types = typed;
-      };
+      typed = record { closed = typed.closed; facts = facts files (world_of linked) (tables_of linked) typed; types = typed.types };
       numbering = refl;
       image = refl;
-      bodies = all_compiled linked is orders;
+      bodies = all_compiled linked of.is_linked orders;
     }

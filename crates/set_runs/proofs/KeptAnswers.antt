@@ -87,3 +87,9 @@ module _ (image : Image) (state : State) where
   pub with_object : (frames : List Frame) (reference : Reference) (use_object : ℕ → Object → SplitMove) → ((name : ℕ) (object : Object) → KeepsHere (use_object name object)) → KeepsHere (with_object_of image state frames reference use_object)
   with_object frames None use_object each = thrown frames null_pointer_exception
   with_object frames (Some name) use_object each = mapped_or state.answers (object_at state name) (use_object name) Stuck (each name) tt
+
+  -- of a reference that is taken
+  pub object_taken : (frames : List Frame) (from : Frame) (use_object : Frame → ℕ → Object → SplitMove) → ((rest : Frame) (name : ℕ) (object : Object) → KeepsHere (use_object rest name object))
+      → KeepsHere (take_ref from (λ reference rest. with_object_of image state frames reference (use_object rest)))
+  object_taken frames from use_object each =
+      taken_ref state.answers from (λ reference rest. with_object_of image state frames reference (use_object rest)) (λ reference rest. with_object frames reference (use_object rest) (each rest))

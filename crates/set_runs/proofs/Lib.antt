@@ -12,8 +12,10 @@ pub mod BuiltFollows
 pub mod KeptAnswers
 -- at operands, locals, numbers, jumps and statics
 pub mod PlainAnswers
--- at fields, arrays and types
-pub mod ObjectAnswers
+-- at fields and types
+pub mod FieldAnswers
+-- at arrays
+pub mod ArrayAnswers
 -- at calls, returns and throws
 pub mod CallAnswers
 -- the split machine asks for what is answered

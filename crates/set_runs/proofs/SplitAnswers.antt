@@ -17,7 +17,8 @@ use Rattle.mote_model.specs.SplitState.{State}
 use Rattle.mote_model.specs.SplitStep.{code_from, machine, move_among, move_of}
 use Rattle.set_runs.proofs.CallAnswers.{called, called_by_interface, called_exactly, called_virtually, left, threw}
 use Rattle.set_runs.proofs.KeptAnswers.{Keeps, KeepsHere, used}
-use Rattle.set_runs.proofs.ObjectAnswers.{array_loaded, array_made, array_stored, arrays_made, field_gotten, field_put, is_cast, length_read, type_tested}
+use Rattle.set_runs.proofs.ArrayAnswers.{array_loaded, array_made, array_stored, arrays_made, length_read}
+use Rattle.set_runs.proofs.FieldAnswers.{field_gotten, field_put, is_cast, type_tested}
 use Rattle.set_runs.proofs.PlainAnswers.{cell_changed, cells_moved, chosen, cleared, compared, computed, incremented, loaded, negated, reference_tested, refs_moved, static_read, static_written, stored, zero_tested}
 
 module _ (image : Image) (state : State) where

@@ -20,10 +20,10 @@ use Rattle.match_starts.proofs.StartStatics.{statics_start}
 use Rattle.body_limits.specs.Limits.{KeepsImageLimits, NumbersAreInRange}
 use Rattle.follow_numbers.specs.WideCode.{IsWideCode}
 use Rattle.follow_calls.proofs.StaticParts.{all_counted}
-use Rattle.set_image.specs.Linked.{Linked, IsOfFiles, Typed, body_of, bodies_of}
+use Rattle.set_image.specs.Linked.{Linked, Typed, body_of, bodies_of}
 use Rattle.set_compile.specs.Compiled.{SetsCompile}
 use Rattle.set_compile.specs.Settings.{setting_of, tables_of, typed_among, world_of}
-use Rattle.set_compile.proofs.CompiledSets.{are_typed, plan_is, source_is}
+use Rattle.set_compile.proofs.CompiledSets.{plan_is, set_typed, source_is}
 use Rattle.set_compile.proofs.FoundCode.{all_found, own_method}
 use Rattle.set_image.specs.LinkRefusals.{IsAccepted}
 use Rattle.set_runs.proofs.FieldPlaces.{AreFew, places_fit}
@@ -38,19 +38,6 @@ joined_cells items size (field ∷ fields) counted =
     let all = length-append (items field) (flat_map items fields) in
     let sum = sum_by-cons size field fields in
     omega (arith, first, rest, all, sum)
-
--- a set of files, with its types, is typed
-pub set_typed : ClassOrderIsRight → (files : List (List ℕ)) (linked : Linked) → IsOfFiles files linked → IsTyped files (world_of linked) (tables_of linked)
-set_typed orders files linked of =
-    let is = of.is_linked in
-    record {
-      records = of.records;
-      codes = of.codes;
-      closed = is.closed;
-      linked = of.links;
-      bodies = is.are_bodies;
-      types = are_typed linked is orders;
-    }
 
 module _ (orders : ClassOrderIsRight) (compile : SetsCompile) (ranges : NumbersAreInRange) (starts : StartsFit) (files : List (List ℕ)) (linked : Linked) (accepted : IsAccepted files linked) where
   pub typed : IsTyped files (world_of linked) (tables_of linked)

@@ -1,19 +1,16 @@
--- The split machine keeps the answers at fields, arrays and types of objects.
-use Rattle.std.proofs.Common.{ℕ, ℤ, zero, suc, ◌&&◌, true, false, if◌then◌else◌, List, [], ◌∷◌, map, reverse, length, slice_get, slice_set, Option, Some, None, is_some, refl}
+-- The split machine keeps the answers at arrays.
+use Rattle.std.proofs.Common.{ℕ, ℤ, zero, suc, if◌then◌else◌, List, [], ◌∷◌, map, reverse, length, slice_get, slice_set, Option, Some, None, refl}
 use Rattle.image_instr.specs.declared.insn.Element.{Element}
 use Rattle.image_instr.specs.declared.insn.Element.TheVariants as element
-use Rattle.image_instr.specs.declared.insn.Kind.{Kind}
-use Rattle.image_instr.specs.declared.insn.Kind.TheVariants as kind
 use Rattle.image_instr.specs.declared.insn.Width.{Width}
 use Rattle.image_instr.specs.declared.insn.Width.TheVariants as width
 use Rattle.image_form.specs.declared.record.Image.{Image}
 use Rattle.mote_model.specs.State.{Reference, Frame, Object}
-use Rattle.mote_model.specs.SplitMoves.{SplitMove, array_index_out_of_bounds_exception, array_store_exception, class_cast_exception, goes_on, misfits, negative_array_size_exception, places, push_cells, push_ref, take_cells, take_number, take_ref, throws, using, with_object_of}
-use Rattle.mote_model.specs.SplitObjects.{any_negative, array_length, array_load, array_store, arrays_of, at_index, cast, count_in, element_size, field_cells, field_ref, get_field, index_in, is_array_of, is_boolean_entry, is_negative, is_of_type, load_element, make_array, make_arrays, may_be_stored, no_place, or_misfit, put_field, read_cells, read_field, store_cells, store_ref, take_counts, test_type, with_element, with_field_cells, with_field_ref, write_cells, write_field}
+use Rattle.mote_model.specs.SplitMoves.{SplitMove, array_index_out_of_bounds_exception, array_store_exception, goes_on, misfits, negative_array_size_exception, places, push_cells, push_ref, take_cells, take_number, take_ref, throws, using, with_object_of}
+use Rattle.mote_model.specs.SplitObjects.{any_negative, array_length, array_load, array_store, arrays_of, at_index, count_in, element_size, index_in, is_array_of, is_boolean_entry, is_negative, load_element, make_array, make_arrays, may_be_stored, no_place, or_misfit, read_cells, store_cells, store_ref, take_counts, with_element, write_cells}
 use Rattle.mote_model.specs.SplitState.{State, with_object}
 use Rattle.mote_model.specs.SplitTypes.{entry_at, new_array}
-use Rattle.set_runs.proofs.KeptAnswers.{Keeps, KeepsHere, either, or_misfits, taken_cells, taken_number, taken_ref, thrown, used}
-use Rattle.set_runs.proofs.KeptAnswers as kept
+use Rattle.set_runs.proofs.KeptAnswers.{object_taken, KeepsHere, either, or_misfits, taken_cells, taken_number, taken_ref, thrown, used}
 
 module _ (image : Image) (state : State) (frame : Frame) (others : List Frame) (next : ℕ) where
   abbrev Keep : SplitMove → Type 0
@@ -21,41 +18,6 @@ module _ (image : Image) (state : State) (frame : Frame) (others : List Frame) (
 
   abbrev frames : List Frame
   frames = frame ∷ others
-
-  -- with the object of a reference that is taken
-  of_taken : (from : Frame) (use_object : Frame → ℕ → Object → SplitMove) → ((rest : Frame) (name : ℕ) (object : Object) → Keep (use_object rest name object))
-      → Keep (take_ref from (λ reference rest. with_object_of image state frames reference (use_object rest)))
-  of_taken from use_object each =
-      taken_ref state.answers from (λ reference rest. with_object_of image state frames reference (use_object rest)) (λ reference rest. kept.with_object image state frames reference (use_object rest) (each rest))
-
-  -- ---- fields
-
-  cells_read : (rest : Frame) (count place : ℕ) (object : Object) → Keep (or_misfit object place (field_cells object place count) (λ cells. goes_on state (push_cells cells rest) others next))
-  cells_read rest count place object = or_misfits state.answers object place (field_cells object place count) (λ cells. goes_on state (push_cells cells rest) others next) (λ cells. refl)
-
-  field_read : (k : Kind) (place : ℕ) (rest : Frame) (name : ℕ) (object : Object) → Keep (read_field image state frames rest others next k place name object)
-  field_read kind.Ref place rest name object = or_misfits state.answers object place (field_ref object place) (λ reference. goes_on state (push_ref reference rest) others next) (λ reference. refl)
-  field_read kind.One place rest name object = cells_read rest 1 place object
-  field_read kind.Two place rest name object = cells_read rest 2 place object
-
-  pub field_gotten : (k : Kind) (place : ℕ) → Keep (get_field image state frame others next k place)
-  field_gotten k place = of_taken frame (λ rest name object. read_field image state frames rest others next k place name object) (field_read k place)
-
-  written : (place : ℕ) (new : Object → Option Object) (rest : Frame) (name : ℕ) (object : Object) → Keep (write_field state rest others next place name object (new object))
-  written place new rest name object = or_misfits state.answers object place (new object) (λ written. goes_on (with_object state name written) rest others next) (λ written. refl)
-
-  cells_put : (count place : ℕ)
-      → Keep (take_cells count frame (λ cells below. take_ref below (λ reference rest. with_object_of image state frames reference (λ name object. write_field state rest others next place name object (with_field_cells object place cells)))))
-  cells_put count place =
-      taken_cells state.answers count frame (λ cells below. take_ref below (λ reference rest. with_object_of image state frames reference (λ name object. write_field state rest others next place name object (with_field_cells object place cells))))
-      (λ cells below. of_taken below (λ rest name object. write_field state rest others next place name object (with_field_cells object place cells)) (written place (λ object. with_field_cells object place cells)))
-
-  pub field_put : (k : Kind) (place : ℕ) → Keep (put_field image state frame others next k place)
-  field_put kind.Ref place =
-      taken_ref state.answers frame (λ value below. take_ref below (λ reference rest. with_object_of image state frames reference (λ name object. write_field state rest others next place name object (with_field_ref object place value))))
-      (λ value below. of_taken below (λ rest name object. write_field state rest others next place name object (with_field_ref object place value)) (written place (λ object. with_field_ref object place value)))
-  field_put kind.One place = cells_put 1 place
-  field_put kind.Two place = cells_put 2 place
 
   -- ---- new arrays
 
@@ -89,7 +51,7 @@ module _ (image : Image) (state : State) (frame : Frame) (others : List Frame) (
 
   pub length_read : Keep (array_length image state frame others next)
   length_read =
-      of_taken frame (λ rest name object. or_misfit object no_place object.length (λ count. goes_on state (push_cells (count ∷ []) rest) others next))
+      object_taken image state frames frame (λ rest name object. or_misfit object no_place object.length (λ count. goes_on state (push_cells (count ∷ []) rest) others next))
       (λ rest name object. or_misfits state.answers object no_place object.length (λ count. goes_on state (push_cells (count ∷ []) rest) others next) (λ count. refl))
 
   indexed : (object : Object) (index : Option ℕ) (use_it : ℕ → SplitMove) → ((at : ℕ) → Keep (use_it at)) → Keep (at_index image state frames object index use_it)
@@ -113,7 +75,7 @@ module _ (image : Image) (state : State) (frame : Frame) (others : List Frame) (
   array_loaded e w =
       taken_number state.answers w frame
       (λ index below. take_ref below (λ reference rest. with_object_of image state frames reference (λ name object. with_element image state frames e index object (λ at. load_element state rest others next e object at))))
-      (λ index below. of_taken below (λ rest name object. with_element image state frames e index object (λ at. load_element state rest others next e object at))
+      (λ index below. object_taken image state frames below (λ rest name object. with_element image state frames e index object (λ at. load_element state rest others next e object at))
       (λ rest name object. with_elements e index object (λ at. load_element state rest others next e object at) (λ at. element_loaded e rest object at)))
 
   ref_stored : (value : Reference) (rest : Frame) (name : ℕ) (object : Object) (at : ℕ) → Keep (store_ref image state frames rest others next value name object at)
@@ -132,7 +94,7 @@ module _ (image : Image) (state : State) (frame : Frame) (others : List Frame) (
   stored_at e w from store each =
       taken_number state.answers w from
       (λ index below. take_ref below (λ reference rest. with_object_of image state frames reference (λ name object. with_element image state frames e index object (λ at. store rest name object at))))
-      (λ index below. of_taken below (λ rest name object. with_element image state frames e index object (λ at. store rest name object at))
+      (λ index below. object_taken image state frames below (λ rest name object. with_element image state frames e index object (λ at. store rest name object at))
       (λ rest name object. with_elements e index object (λ at. store rest name object at) (λ at. each rest name object at)))
 
   element_stored : (e : Element) (w : Width)
@@ -150,17 +112,3 @@ module _ (image : Image) (state : State) (frame : Frame) (others : List Frame) (
   array_stored element.Byte w = element_stored element.Byte w
   array_stored element.Half w = element_stored element.Half w
   array_stored element.Int w = element_stored element.Int w
-
-  -- ---- types
-
-  pub is_cast : (id : ℕ) → Keep (cast image state frame others next id)
-  is_cast id =
-      taken_ref state.answers frame
-      (λ reference rest. if is_some reference && (if is_of_type image state id reference then false else true) then throws image state frames class_cast_exception else goes_on state frame others next)
-      (λ reference rest.
-      either state.answers (is_some reference && (if is_of_type image state id reference then false else true)) (throws image state frames class_cast_exception) (goes_on state frame others next)
-      (thrown image state frames class_cast_exception) refl)
-
-  pub type_tested : (id : ℕ) → Keep (test_type image state frame others next id)
-  type_tested id =
-      taken_ref state.answers frame (λ reference rest. goes_on state (push_cells ((if is_of_type image state id reference then 1 else 0) ∷ []) rest) others next) (λ reference rest. refl)
