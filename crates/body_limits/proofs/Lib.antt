@@ -3,4 +3,4 @@ mod KeptRows
 -- what instructions count, and how many parameters there are
 mod KeptCounts
 -- the numbers of machine instructions are of their types
-mod ranges
+pub mod ranges

@@ -44,11 +44,12 @@ module _ {X : Type 0} (P : X → Type 0) where
 -- ---- what a static holds
 
 -- a static field of a file, which holds its initial value
-record Holds (files : List ClassFile) (field : Field) : Type 0 where
+pub record Holds (files : List ClassFile) (field : Field) : Type 0 where
   pub file : ClassFile
   pub member : Member
   pub file_is : file_of files field.member.class ≡ Some file
   pub member_is : slice_get file.fields field.member.member ≡ Some member
+  pub static : is_static member.flags ≡ true
   pub holds : statics_of files field.member ≡ Some (initial_value file member)
 
 abbrev HoldsWhereStatic : List ClassFile → Field → Type 0
@@ -59,7 +60,7 @@ module _ (files : List ClassFile) (class : ℕ) (file : ClassFile) (found : file
   one_holds at member there static =
       let has = file_at files class file found in
       let stands : slice_get files (class - 32) ≡ Some file = sym (own_file files class has.own) ∙ found in
-      record { file = file; member = member; file_is = found; member_is = there; holds = initial_there files (member_at class at) file member has.own stands there static }
+      record { file = file; member = member; file_is = found; member_is = there; static = static; holds = initial_there files (member_at class at) file member has.own stands there static }
 
   from_hold : (at : ℕ) (members : List Member) → ((i : ℕ) → slice_get members i ≡ slice_get file.fields (at + i)) → AllByRecursion (HoldsWhereStatic files) (fields_from class file at members)
   unfolding fields_from
@@ -74,7 +75,7 @@ class_holds : (files : List ClassFile) (class : ℕ) (found : Option ClassFile) 
 class_holds files class None is = tt
 class_holds files class (Some file) is = from_hold files class file is 0 file.fields (λ i. ap (slice_get file.fields) (omega arith))
 
-all_hold : (files : List ClassFile) → AllByRecursion (Holds files) (static_fields files)
+pub all_hold : (files : List ClassFile) → AllByRecursion (Holds files) (static_fields files)
 all_hold files =
     of_kept (Holds files) (λ field. field.static) (all_fields files)
     (of_each (HoldsWhereStatic files) (class_fields files) (class_order files) (λ class. class_holds files class (file_of files class) refl))

@@ -15,7 +15,7 @@ use Rattle.jvm_model.specs.ImageExpansion.{Ids, alone, alone_where, is_two, top_
 use Rattle.type_safety.proofs.facts.FewCounts.{HasFewArguments}
 use Rattle.body_limits.proofs.ranges.Plain.{InRange, both, where_emitted, read_in}
 
-passed_few : (k : DeclaredKind) → passed_cells k ≤ 2
+pub passed_few : (k : DeclaredKind) → passed_cells k ≤ 2
 passed_few declared.Int = omega arith
 passed_few declared.Byte = omega arith
 passed_few declared.Char = omega arith

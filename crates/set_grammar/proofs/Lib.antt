@@ -1,0 +1,24 @@
+-- what each item of a list meets
+pub mod EachItems
+-- typed code, and its start
+pub mod TypedSets
+-- how many methods there are
+pub mod MethodCounts
+-- the arguments are among the locals
+pub mod DeclaredLocals
+-- slots and cells of what is passed
+pub mod PassedArguments
+-- signatures
+pub mod MethodSignatures
+-- instructions that do not go on
+pub mod EndingInsns
+-- code is not empty
+pub mod SomeCode
+-- the statics
+pub mod SetStatics
+-- main
+pub mod SetMain
+-- the methods
+pub mod SetMethods
+-- all parts
+pub mod SetGrammars
