@@ -19,3 +19,4 @@ mod widths;
 pub use emitting::emit;
 pub use instruction::emit_instruction;
 pub use refusal::EmitRefusal;
+pub use signatures::signature;

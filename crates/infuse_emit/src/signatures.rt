@@ -1,6 +1,6 @@
 //! The signature of a method.
 
-ghost use Rattle.std.specs.Prelude.{◌≡◌, ◌+◌, ◌*◌, ◌≤◌, cond, length, filter};
+ghost use Rattle.std.specs.Prelude.{◌≡◌, ◌+◌, ◌*◌, ◌≤◌, if◌then◌else◌, length, filter};
 ghost use Rattle.std.specs.List.{sum_by};
 ghost use Rattle.jvm_model.specs.Initialisers.{is_reference_kind as is_reference_of};
 ghost use Rattle.jvm_model.specs.WidthsSlots.{passed_cells as cells_passed};
@@ -59,16 +59,23 @@ fn result_code(returned: &Option<Kind>) -> u8
     }
 }
 
-/// What a method takes and gives.
+/// What a method takes and gives: the object that it is called on, where it has one, and its parameters.
+pub fn signature(instance: bool, params: &[Kind], returned: &Option<Kind>) -> Sig
+    requires { (if instance then 1 else 0) + length params.now ≤ 255 }
+    ensures { result ≡ signature_for instance params.now returned.now }
+{
+    let object = if instance { 1 } else { 0 };
+    Sig {
+        refs: object + references(params) as u8,
+        cells: cells(params),
+        result: result_code(returned),
+    }
+}
+
+/// What the method of a body takes and gives.
 pub(crate) fn signature_of(body: &Body) -> Sig
     requires { HasFewParameters body.now }
     ensures { result ≡ signature_for body.now.instance body.now.params body.now.result }
 {
-    let params = body.params.as_slice();
-    let object = if body.instance { 1 } else { 0 };
-    Sig {
-        refs: object + references(params) as u8,
-        cells: cells(params),
-        result: result_code(&body.result),
-    }
+    signature(body.instance, body.params.as_slice(), &body.result)
 }

@@ -1,0 +1,2 @@
+-- items with their numbers
+pub mod NumberedItems
