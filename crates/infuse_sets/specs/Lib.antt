@@ -1,0 +1,2 @@
+pub mod TypedBodies
+pub mod LaidBodies
