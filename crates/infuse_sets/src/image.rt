@@ -11,10 +11,16 @@ ghost use Rattle.jvm_model.specs.ImageLimits.{first_excess};
 ghost use Rattle.jvm_model.specs.ImageNumbering.{numbering_of};
 ghost use Rattle.jvm_model.specs.ImageTables.{image_with};
 ghost use Rattle.jvm_model.specs.NumberedIds.{numbers_of};
-ghost use Rattle.set_image.specs.LinkRefusals.{count_refusal};
+ghost use Rattle.set_image.specs.Linked.{Linked};
+ghost use Rattle.set_image.specs.LinkRefusals.{count_refusal, IsLinkedImage, IsLinkRefusal};
 ghost use Rattle.infuse_tables.specs.Tables.{FitTables, IsShort};
+ghost use Rattle.infuse_sets.specs.TypedBodies.{AreOf};
 
+use crate::code::methods_of;
+use crate::forms::test_forms;
+use crate::frames::laid_out;
 use crate::refusals::no_memory;
+use crate::typed::TypedBody;
 use body_form::Body;
 use class_tree::ClassSet;
 use image_form::{Image, Method};
@@ -28,7 +34,7 @@ use std::alloc::Global;
 const VERSION: u16 = 1;
 
 /// The numbers of what the image names.
-pub(crate) fn ids_of(alloc: Global, set: &ClassSet, bodies: &[Body]) -> Result<Ids, Refusal>
+fn ids_of(alloc: Global, set: &ClassSet, bodies: &[Body]) -> Result<Ids, Refusal>
     ghost main: { MemberId }
 
     requires closed { Gathers set.now None }
@@ -52,7 +58,7 @@ pub(crate) fn ids_of(alloc: Global, set: &ClassSet, bodies: &[Body]) -> Result<I
 }
 
 /// The image with these methods and numbers.
-pub(crate) fn with_tables(
+fn with_tables(
     alloc: Global,
     set: &ClassSet,
     ids: Ids,
@@ -78,4 +84,38 @@ pub(crate) fn with_tables(
         static_cells: ids.static_cells,
         main: ids.main,
     })
+}
+
+/// The image of a closed set of classes whose bodies have these types, or why it has none: a form that does not run so
+/// far, then a frame of more than 32,767 cells, then too many of one kind, then code of more than 65,535 bytes. The bodies
+/// are those of the set, in the order of its files and of their methods.
+pub fn image_of(
+    alloc: Global,
+    set: &ClassSet,
+    bodies: &[Body],
+    typed: &[TypedBody<'_>],
+) -> Result<Image, Refusal>
+    ghost linked: { Linked }
+
+    requires set { AreOf linked set.now typed.now }
+    requires bodies { map (λ one. one.body.now) typed.now ≡ bodies.now }
+    ensures image { IfOk result (IsLinkedImage linked) }
+    ensures refused { IfErr result (IsLinkRefusal linked) }
+{
+    match test_forms(bodies) {
+        Ok(()) => {}
+        Err(why) => return Err(why),
+    }
+    let laid = match laid_out(alloc, typed) {
+        Ok(laid) => laid,
+        Err(why) => return Err(why),
+    };
+    let ids = match ids_of(alloc, set, bodies) {
+        Ok(ids) => ids,
+        Err(why) => return Err(why),
+    };
+    match methods_of(alloc, set, &laid, &ids) {
+        Ok(methods) => with_tables(alloc, set, ids, methods),
+        Err(why) => Err(why),
+    }
 }
