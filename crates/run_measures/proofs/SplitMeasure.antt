@@ -46,7 +46,7 @@ module _ (image : Image) (sound : IsSound image) (state : State) (reached : IsRe
       (subst (λ (found : Option (MInsn × ℕ)). Lowers (rank_in image) (rank_of image (frame ∷ others)) (using found (λ found. move_of image state frame others (frame.pc + found.1) found.0 (rows_at found.0 (code_from image frame))))) (sym found_is)
       (insn_lowers ahead others state here.insn (rows_at here.insn (code_from image frame)) here.run))
 
-  falls : (next : State) (need : Need) (events : List Event) → move image state ≡ Does need events next → need.tick ≡ false → rank_of image next.frames < rank_of image state.frames
+  pub falls : (next : State) (need : Need) (events : List Event) → move image state ≡ Does need events next → need.tick ≡ false → rank_of image next.frames < rank_of image state.frames
   falls next need events is quiet =
       subst (λ (frames : List Frame). rank_of image next.frames < rank_of image frames) (sym reached.frames_are) (lowers.lower need events next is quiet)
 
