@@ -20,5 +20,23 @@ pub mod SetStatics
 pub mod SetMain
 -- the methods
 pub mod SetMethods
+-- initialisers take nothing
+pub mod ReadInitialisers
+-- the selectors
+pub mod SetSelectors
+-- the types are the classes
+pub mod ShownTypes
+-- fields of objects
+pub mod ObjectLayouts
+-- rows of classes
+pub mod ClassRows
+-- counts of class files
+pub mod ReadCounts
+-- what stands above a class
+pub mod ClassUppers
+-- the types
+pub mod SetTypes
+-- the rows
+pub mod SetRows
 -- all parts
 pub mod SetGrammars

@@ -14,7 +14,7 @@ use Rattle.jvm_model.specs.WidthsSlots.{passed_cells}
 use Rattle.body_limits.proofs.ranges.Calls.{passed_few}
 use Rattle.body_limits.specs.Limits.{HasFewParameters}
 
-fewer_pass : {X : Type 0} (test : X → Bool) (items : List X) → length (filter test items) ≤ length items
+pub fewer_pass : {X : Type 0} (test : X → Bool) (items : List X) → length (filter test items) ≤ length items
 fewer_pass test [] = omega arith
 fewer_pass test (x ∷ items) = by (test x) (fewer_pass test items)
   where
@@ -22,7 +22,7 @@ fewer_pass test (x ∷ items) = by (test x) (fewer_pass test items)
     by true few = omega (arith, few)
     by false few = omega (arith, few)
 
-all_few : (kinds : List Kind) → sum_by passed_cells kinds ≤ 2 * length kinds
+pub all_few : (kinds : List Kind) → sum_by passed_cells kinds ≤ 2 * length kinds
 all_few [] = omega arith
 all_few (k ∷ kinds) = omega (arith, passed_few k, all_few kinds, sum_by-cons passed_cells k kinds)
 
@@ -31,7 +31,7 @@ code_few split_kind.Ref = omega arith
 code_few split_kind.One = omega arith
 code_few split_kind.Two = omega arith
 
-result_few : (result : Option Kind) → result_code result ≤ 3
+pub result_few : (result : Option Kind) → result_code result ≤ 3
 result_few None = omega arith
 result_few (Some k) = code_few (kind_in k)
 

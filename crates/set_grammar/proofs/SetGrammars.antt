@@ -1,18 +1,20 @@
--- The image of an accepted set is of the grammar, part by part.
+-- The image of an accepted set of files of bytes is of the grammar, where no selector has the name of an initialiser.
 use Rattle.std.proofs.Common.{refl}
 use Rattle.type_safety.specs.Starts.{StartsFit}
 use Rattle.body_limits.specs.Limits.{ParametersAreFew}
 use Rattle.set_compile.specs.Compiled.{SetsCompile}
-use Rattle.set_grammar.specs.Grammars.{SetImagesAreImages}
-use Rattle.set_grammar.specs.Parts.{HasRows, HasSelectors, HasTypes, OfEachImage}
+use Rattle.set_grammar.specs.PlainSets.{PlainImagesAreImages}
 use Rattle.set_grammar.proofs.SetMain.{main_is}
 use Rattle.set_grammar.proofs.SetMethods.{methods_are}
+use Rattle.set_grammar.proofs.SetRows.{rows_are}
+use Rattle.set_grammar.proofs.SetSelectors.{selectors_are}
 use Rattle.set_grammar.proofs.SetStatics.{statics_are}
+use Rattle.set_grammar.proofs.SetTypes.{types_are}
 
-pub images_are_images : SetsCompile → StartsFit → ParametersAreFew → OfEachImage HasTypes → OfEachImage HasSelectors → OfEachImage HasRows → SetImagesAreImages
-images_are_images compile starts parameters have_types have_selectors have_rows files linked is =
-    let types = have_types files linked is in
-    let selectors = have_selectors files linked is in
+pub images_are_images : SetsCompile → StartsFit → ParametersAreFew → PlainImagesAreImages
+images_are_images compile starts parameters files linked bytes is plain =
+    let types = types_are files linked bytes is in
+    let selectors = selectors_are files linked is in
     let methods = methods_are compile parameters files linked is in
     let statics = statics_are compile starts files linked is in
     record {
@@ -27,5 +29,5 @@ images_are_images compile starts parameters have_types have_selectors have_rows 
       static_cells_fit = statics.cells;
       static_cells_are = statics.are;
       main_is = main_is compile starts files linked is;
-      rows_are = have_rows files linked is;
+      rows_are = rows_are compile files linked is plain;
     }

@@ -27,11 +27,11 @@ found_within (first ∷ items) zero item is = omega arith
 found_within (first ∷ items) (suc place) item is = omega (arith, found_within items place item is)
 
 -- an id that has a method is none of the library's
-record IsPlaced (image : Image) (id : ℕ) (method : Method) : Type 0 where
+pub record IsPlaced (image : Image) (id : ℕ) (method : Method) : Type 0 where
   pub own : first_own ≤ id
   pub there : slice_get image.methods (id - first_own) ≡ Some method
 
-is_placed : (image : Image) (id : ℕ) (method : Method) → method_at image id ≡ Some method → IsPlaced image id method
+pub is_placed : (image : Image) (id : ℕ) (method : Method) → method_at image id ≡ Some method → IsPlaced image id method
 is_placed image id method is = by (nat_lt id first_own) refl is
   where
     by : (library : Bool) → nat_lt id first_own ≡ library → (if library then None else slice_get image.methods (id - first_own)) ≡ Some method → IsPlaced image id method

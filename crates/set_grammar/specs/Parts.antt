@@ -1,5 +1,5 @@
 -- What the grammar asks of the image of an accepted set, part by part.
-use Rattle.std.specs.Prelude.{◌≡◌, ℕ, ◌^◌, ◌<◌, ◌≤◌, List, [], length}
+use Rattle.std.specs.Prelude.{ℕ, ◌^◌, ◌<◌, ◌≤◌, List, [], length}
 use Rattle.image_form.specs.declared.record.Image.{Image}
 use Rattle.image_form.specs.Grammar.{Each, EachAfter, HasSignatures, IsMain, IsMethod, IsSelector, IsType, most_methods, most_types}
 use Rattle.set_image.specs.Linked.{Linked, image_in}
