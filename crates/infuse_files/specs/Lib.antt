@@ -1,0 +1,3 @@
+pub mod Infused
+pub mod Sets
+pub mod Stages
