@@ -1,0 +1,3 @@
+pub mod ImageOutcome
+pub mod SetOutcome
+pub mod RunsAlike
