@@ -10,7 +10,7 @@ use Rattle.body_form.specs.declared.body.Body.{Body}
 use Rattle.body_make.specs.Names.{Adds}
 use Rattle.body_make.proofs.Adding.{adds_then, adds_none, adds_all}
 use Rattle.jvm_model.specs.declared.refusal.Refusal.{Refusal}
-use Rattle.jvm_model.specs.BuiltForm.{FirstOf}
+use Rattle.jvm_model.specs.FirstOf.{FirstOf}
 use Rattle.jvm_model.specs.Linking.{MethodNames, ClassLinks, declared_refusal}
 use Rattle.jvm_model.specs.Bodies.{Coded, coded_of, coded_from, coded_in, IsBody, AreBodies}
 

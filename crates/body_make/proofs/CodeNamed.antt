@@ -8,7 +8,7 @@ use Rattle.class_code.specs.Code.{Insns}
 use Rattle.class_code.specs.Flow.{code_ways}
 use Rattle.jvm_model.specs.declared.refusal.Refusal.{Refusal}
 use Rattle.jvm_model.specs.Phases.{first_refusal}
-use Rattle.jvm_model.specs.BuiltForm.{FirstOf}
+use Rattle.jvm_model.specs.FirstOf.{FirstOf}
 use Rattle.jvm_model.specs.Linking.{NamesOf, row_refusal, CodeNames}
 
 module _ (files : List ClassFile) (position : ℕ) (file : ClassFile) (member : ℕ) (code : CodeAttr) (insns : Insns) where

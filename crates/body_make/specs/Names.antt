@@ -19,7 +19,7 @@ use Rattle.jvm_model.specs.Phases.{refusal_of_insn}
 use Rattle.jvm_model.specs.Instructions.{op_of}
 use Rattle.jvm_model.specs.Linking.{Linking}
 use Rattle.jvm_model.specs.Entry.{entry_refusal}
-use Rattle.jvm_model.specs.ProgramOf.{insns_in}
+use Rattle.jvm_model.specs.CodeInsns.{insns_in}
 use Rattle.jvm_model.specs.Bodies.{AreEach, Coded}
 
 -- there was no memory, or the refusal is one that is had

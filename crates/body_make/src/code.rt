@@ -6,7 +6,7 @@ ghost use Rattle.class_tree.specs.Set.{IsClass};
 ghost use Rattle.class_code.specs.Code.{RiseFrom};
 ghost use Rattle.class_code.specs.Flow.{code_ways};
 ghost use Rattle.jvm_model.specs.Phases.{first_refusal};
-ghost use Rattle.jvm_model.specs.BuiltForm.{FirstOf};
+ghost use Rattle.jvm_model.specs.FirstOf.{FirstOf};
 ghost use Rattle.jvm_model.specs.Instructions.{op_of as op_of_insn, caught_by as caught_by_entry};
 ghost use Rattle.jvm_model.specs.Linking.{fault_of, refusal_at as refusal_at_pc, NamesOf, row_refusal};
 ghost use Rattle.jvm_model.specs.Bodies.{AreEach, IsFamily, IsGuard};

@@ -4,8 +4,8 @@ ghost use Rattle.std.specs.Prelude.{◌≡◌, ◌≤◌, ◌-◌, ◌++◌, Non
 ghost use Rattle.std.specs.Option.{option_to_list};
 ghost use Rattle.class_tree.specs.Set.{IsClass};
 ghost use Rattle.class_code.specs.Code.{RiseFrom, decoded};
-ghost use Rattle.jvm_model.specs.BuiltForm.{IfThere};
-ghost use Rattle.jvm_model.specs.ProgramOf.{insns_in};
+ghost use Rattle.jvm_model.specs.FirstOf.{IfThere};
+ghost use Rattle.jvm_model.specs.CodeInsns.{insns_in};
 ghost use Rattle.jvm_model.specs.Linking.{CodeNames, MethodNames, is_initialiser as is_initialiser_of};
 ghost use Rattle.jvm_model.specs.Bodies.{AreEach, IsBody, HasType, coded_of};
 ghost use Rattle.body_make.specs.Refusals.{no_memory};

@@ -3,7 +3,7 @@
 ghost use Rattle.std.specs.Prelude.{◌≡◌, ◌⊎◌, ◌<◌, ◌≤◌, ◌-◌, ℕ, List, None, Some, length, slice_get, OnOk, IfOk, IfErr};
 ghost use Rattle.class_tree.specs.Set.{IsClass};
 ghost use Rattle.jvm_model.specs.declared.refusal.Refusal.{Refusal};
-ghost use Rattle.jvm_model.specs.BuiltForm.{FirstOf};
+ghost use Rattle.jvm_model.specs.FirstOf.{FirstOf};
 ghost use Rattle.jvm_model.specs.Linking.{MethodNames, ClassLinks, Linking};
 ghost use Rattle.jvm_model.specs.Entry.{entry_refusal};
 ghost use Rattle.jvm_model.specs.Bodies.{IsBody, AreBodies, coded_from};

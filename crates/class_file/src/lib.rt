@@ -3,8 +3,8 @@
 //! specs/Relation.antt: the bytes are the encoding of a layout, the layout keeps the rules, and the
 //! record is that of the layout. Why other bytes are refused is in specs/Refused.antt, and the order in
 //! which faults are found in specs/ReadingClass.antt. A table of the pool's texts, in specs/Texts.antt,
-//! keeps the cost in proportion to the bytes. `is_one_main` tells the class files of one main,
-//! in specs/OneMain.antt. This crate stands on `class_pool`, `item_list` and the kit's `byteorder`.
+//! keeps the cost in proportion to the bytes. This crate stands on `class_pool`, `item_list` and the kit's
+//! `byteorder`.
 #![tactic(auto)]
 
 mod attribute;
@@ -16,7 +16,6 @@ mod head;
 mod laws;
 mod member;
 mod names;
-mod one_main;
 mod read;
 mod record;
 mod refusal;
@@ -28,7 +27,6 @@ pub use flags::{
     is_abstract, is_final, is_interface, is_private, is_protected, is_public, is_static,
 };
 pub use laws::{faults_say, prefixes_decide};
-pub use one_main::is_one_main;
 pub use read::read_class;
 pub use record::{ClassFile, CodeAttr, HandlerRow, Member};
 pub use refusal::ReadRefusal;

@@ -1,5 +1,5 @@
 use class_code::decode;
-use class_file::{ClassFile, is_one_main, read_class};
+use class_file::{ClassFile, read_class};
 use class_pool::{
     Pool, method_name, name_and_type_in, read_descriptor, read_field_descriptor, read_pool,
 };
@@ -29,10 +29,9 @@ impl Reader for ClassReader {
     }
 }
 
-/// Why the bytes are no class file, or whether one main is all that they have.
+/// Why the bytes are no class file, or that they are one.
 fn class(alloc: Global, bytes: &[u8]) -> Result<String, AllocError> {
     match read_class(alloc, bytes) {
-        Ok(class) if is_one_main(&class) => String::from_str(alloc, "one main"),
         Ok(_) => String::from_str(alloc, "a class"),
         Err(why) => format!(in alloc; "{why:?}"),
     }

@@ -10,7 +10,7 @@ use Rattle.insn_form.specs.declared.SwitchForm.TheVariants as switch
 use Rattle.insn_form.specs.declared.SwitchRow.{SwitchRow}
 use Rattle.image_instr.specs.declared.insn.SwitchRow as image_row
 use Rattle.image_instr.specs.Switch.{target_in}
-use Rattle.jvm_model.specs.Machine.{row_target}
+use Rattle.jvm_model.specs.Operands.{row_target}
 use Rattle.mote_model.specs.SplitStep as split_step
 use Rattle.image_instr.specs.declared.insn.MInsn.TheVariants as insns
 use Rattle.image_instr.specs.declared.insn.Width.{Width}

@@ -7,7 +7,7 @@ use Rattle.insn_form.specs.declared.StackForm.{StackForm}
 use Rattle.insn_form.specs.declared.StackForm.TheVariants as form
 use Rattle.body_form.specs.declared.op.Op.TheVariants as op
 use Rattle.jvm_model.specs.ImageExpansion.{alone_where, refs_in, cells_in, remove, copy, exchange, restack}
-use Rattle.jvm_model.specs.Machine.{restacked}
+use Rattle.jvm_model.specs.Operands.{restacked}
 use Rattle.jvm_model.specs.State.{Value, Whole}
 use Rattle.mote_model.specs.State.{Reference, Half, Frame as SplitFrame}
 use Rattle.mote_model.specs.SplitMoves as split_moves

@@ -16,5 +16,3 @@ pub mod Items
 pub mod Unmatched
 -- What was written, one part after the other.
 pub mod Written
--- An image of the small form is of the grammar.
-pub mod SmallImage

@@ -3,7 +3,6 @@ use Rattle.std.specs.Prelude.{◌≡◌, List, ℕ, [], ◌++◌}
 use Rattle.image_form.specs.declared.record.Image.{Image}
 use Rattle.image_form.specs.Format.{encoding}
 use Rattle.image_form.specs.Grammar.{IsImage, IsEncoded}
-use Rattle.image_form.specs.SmallForm.{IsSmall}
 
 -- an image has one encoding
 abbrev pub HasOneEncoding : Type 0
@@ -16,7 +15,3 @@ IsInjective = (bytes : List ℕ) (first second : Image) → IsEncoded bytes firs
 -- no encoding is a proper prefix of another
 abbrev pub IsPrefixFree : Type 0
 IsPrefixFree = (first second : Image) (suffix : List ℕ) → IsImage first → IsImage second → encoding first ++ suffix ≡ encoding second → suffix ≡ []
-
--- an image of the small form is of the grammar
-abbrev pub SmallIsImage : Type 0
-SmallIsImage = (image : Image) → IsSmall image → IsImage image

@@ -1,17 +1,12 @@
 ghost use Rattle.image_form.specs.BadTables.{BadTableIsOfEntry};
 ghost use Rattle.image_form.specs.Prefixes.{FaultsHold, PrefixesAreTruncated, PrefixesOfFaults, PrefixesOfTruncated, NoneBeginsWithFaults};
-ghost use Rattle.image_form.specs.Laws.{HasOneEncoding, IsInjective, IsPrefixFree, SmallIsImage};
+ghost use Rattle.image_form.specs.Laws.{HasOneEncoding, IsInjective, IsPrefixFree};
 
 /// An image has one encoding and a encoding is that of one image, and none is a proper prefix of another.
 pub fn encoding_is_injective()
     ensures encoding { HasOneEncoding }
     ensures image { IsInjective }
     ensures prefix { IsPrefixFree }
-{}
-
-/// An image of the small form is of the grammar.
-pub fn small_is_image()
-    ensures { SmallIsImage }
 {}
 
 /// An infusion that is cut off is truncated, a fault stands whatever follows it, and before the first

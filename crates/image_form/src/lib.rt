@@ -18,7 +18,7 @@ mod types;
 mod write;
 
 pub use ids::{names_interface, names_type, signature_in};
-pub use laws::{encoding_is_injective, faults_say, prefixes_decide, small_is_image};
+pub use laws::{encoding_is_injective, faults_say, prefixes_decide};
 pub use read::read_image;
 pub use record::{ClassEntry, DispatchRow, HandlerEntry, Image, Method, TypeEntry};
 pub use refusal::FormRefusal;

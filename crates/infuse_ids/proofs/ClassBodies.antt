@@ -19,7 +19,7 @@ use Rattle.class_tree.proofs.ancestors.Leading.{and_both}
 use Rattle.class_code.specs.Code.{Insns, decoded}
 use Rattle.class_file.specs.declared.record.CodeAttr.{CodeAttr}
 use Rattle.jvm_model.specs.Linking.{is_initialiser}
-use Rattle.jvm_model.specs.ProgramOf.{insns_in}
+use Rattle.jvm_model.specs.CodeInsns.{insns_in}
 use Rattle.jvm_model.specs.Bodies.{AreEach, Coded, IsBody, AreBodies, coded_of, coded_from, coded_in, coded_methods}
 use Rattle.jvm_model.specs.ImageNumbering.{class_order, coded_in_class, method_order, is_body_of, bodies_in_order}
 use Rattle.infuse_ids.specs.Orders.{AreByClass, is_of_class, bodies_of_class, method_of_body, methods_over}

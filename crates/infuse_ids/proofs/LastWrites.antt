@@ -13,7 +13,7 @@ use Rattle.jvm_model.specs.Initialisers.{Pushed, pushed_by, is_plain_return}
 use Rattle.jvm_model.specs.InitialStatics.{last_write, written_by, writes_from, writes_in, writes_of}
 use Rattle.class_file.specs.declared.record.Member.{Member}
 use Rattle.jvm_model.specs.Linking.{is_initialiser}
-use Rattle.jvm_model.specs.ProgramOf.{insns_in}
+use Rattle.jvm_model.specs.CodeInsns.{insns_in}
 use Rattle.infuse_ids.specs.declared.writes.LastWrites.{LastWrites}
 use Rattle.infuse_ids.specs.Writes.{Sets, last_set, target_of}
 

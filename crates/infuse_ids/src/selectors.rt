@@ -16,13 +16,17 @@ use std::alloc::{AllocError, Global};
 /// The name of constructors (JVMS 2.9).
 const CONSTRUCTOR: &[u8] = b"<init>";
 
-/// Calls select the method: it is neither static nor private, and no constructor.
+/// The name of the initialisers of classes (JVMS 2.9).
+const INITIALISER: &[u8] = b"<clinit>";
+
+/// Calls select the method: it is neither static nor private, no constructor and no initialiser.
 fn is_selected(pool: &Pool, method: &Member) -> bool
     ensures { result ≡ is_selected_of (in_file pool.now method.now) }
 {
     !is_static(method.flags)
         && !is_private(method.flags)
         && text_at(pool, method.name) != CONSTRUCTOR
+        && text_at(pool, method.name) != INITIALISER
 }
 
 /// Adds the selectors of these methods.

@@ -4,7 +4,7 @@ ghost use Rattle.std.specs.Prelude.{◌≡◌, [], None, Some, if◌then◌else�
 ghost use Rattle.class_tree.specs.Members.{Declaration, is_called};
 ghost use Rattle.jvm_model.specs.InitialStatics.{writes_from, writes_in, writes_of, written_by, last_write};
 ghost use Rattle.jvm_model.specs.Linking.{is_initialiser as is_initialiser_method};
-ghost use Rattle.jvm_model.specs.ProgramOf.{insns_in};
+ghost use Rattle.jvm_model.specs.CodeInsns.{insns_in};
 ghost use Rattle.class_code.specs.Code.{decoded};
 ghost use Rattle.infuse_ids.specs.declared.refusal.IdsRefusal.TheVariants.{Memory};
 ghost use Rattle.infuse_ids.specs.Writes.{Sets, last_set, pushed_of};

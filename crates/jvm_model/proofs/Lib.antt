@@ -1,5 +1,3 @@
--- runs of the number form
-pub mod runs
 -- phases: each has one answer
 pub mod phases
 -- bodies: what is reached, and what they name

@@ -16,7 +16,7 @@ use Rattle.body_form.specs.declared.body.Body.{Body}
 use Rattle.body_form.specs.declared.body.Guard.{Guard}
 use Rattle.body_form.specs.declared.op.Op.{Op}
 use Rattle.body_form.specs.declared.op.Op.TheVariants as op
-use Rattle.jvm_model.specs.ProgramOf.{insns_in}
+use Rattle.jvm_model.specs.CodeInsns.{insns_in}
 use Rattle.code_reach.specs.Reached.{Ways, IsReached}
 use Rattle.class_code.specs.Flow.{code_ways}
 use Rattle.jvm_model.specs.Instructions.{op_of, caught_by}

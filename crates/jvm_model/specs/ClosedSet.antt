@@ -10,7 +10,7 @@ use Rattle.jvm_model.specs.declared.refusal.Cause.{Cause}
 use Rattle.jvm_model.specs.declared.refusal.Cause.TheVariants as cause
 use Rattle.jvm_model.specs.declared.refusal.Refusal.{Refusal}
 use Rattle.jvm_model.specs.Phases.{too_many, record_in}
-use Rattle.jvm_model.specs.BuiltForm.{IfThere}
+use Rattle.jvm_model.specs.FirstOf.{IfThere}
 
 -- the records of the files, where each of them is read
 abbrev pub records_of : List (List ℕ) → Option (List ClassFile)

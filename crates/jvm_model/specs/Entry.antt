@@ -7,9 +7,10 @@ use Rattle.class_file.specs.Rules.{is_public, is_static}
 use Rattle.class_file.specs.declared.record.ClassFile.{ClassFile}
 use Rattle.class_file.specs.declared.record.Member.{Member}
 use Rattle.class_tree.specs.Members.{in_file, is_called}
+use Rattle.jvm_model.specs.declared.refusal.Cause.{Cause}
 use Rattle.jvm_model.specs.declared.refusal.Cause.TheVariants as cause
 use Rattle.jvm_model.specs.declared.refusal.Refusal.{Refusal}
-use Rattle.jvm_model.specs.BuiltForm.{refusal_by, IfThere}
+use Rattle.jvm_model.specs.FirstOf.{IfThere}
 use Rattle.jvm_model.specs.ClosedSet.{records_of}
 
 -- the method is `public static main()V`
@@ -25,6 +26,10 @@ abbrev pub entry_of : List ClassFile → Option MemberId
 entry_of files =
     option_and_then (λ file. option_map (λ member. record { class = first_own + file; member = member }) (option_and_then main_in (slice_get files file)))
     (position (λ file. is_some (main_in file)) files)
+
+-- no place is named
+abbrev pub refusal_by : Cause → Refusal
+refusal_by why = record { cause = why; file = 0; member = 0; pc = 0; value = 0 }
 
 -- no file has one
 abbrev pub entry_refusal : List ClassFile → Option Refusal

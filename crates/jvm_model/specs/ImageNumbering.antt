@@ -35,7 +35,7 @@ use Rattle.jvm_model.specs.declared.numbers.Selector.{Selector}
 use Rattle.jvm_model.specs.Bodies.{Coded, coded_from}
 use Rattle.jvm_model.specs.Initialisers.{is_whole_kind, is_reference_kind}
 use Rattle.jvm_model.specs.InitialStatics.{initial_value, kind_of}
-use Rattle.jvm_model.specs.MethodUses.{constructor_name}
+use Rattle.jvm_model.specs.MethodUses.{constructor_name, initialiser_name}
 use Rattle.jvm_model.specs.State.{Value, Whole, Null, Name}
 use Rattle.jvm_model.specs.WidthsSlots.{passed_cells}
 use Rattle.jvm_model.specs.ImageExpansion.{Ids}
@@ -114,9 +114,10 @@ type_order files bodies = fold with_body (map class_type (class_order files)) (b
 
 -- ---- selectors
 
--- a method that calls select: neither static nor private, and no constructor
+-- a method that calls select: neither static nor private, no constructor and no initialiser
 abbrev pub is_selected : Declaration → Bool
-is_selected method = not (is_static method.flags) && (not (is_private method.flags) && not (bytes_eq method.name constructor_name))
+is_selected method =
+    not (is_static method.flags) && (not (is_private method.flags) && (not (bytes_eq method.name constructor_name) && not (bytes_eq method.name initialiser_name)))
 
 abbrev pub is_selector : List ℕ → List ℕ → Selector → Bool
 is_selector name descriptor selector = bytes_eq name selector.name && bytes_eq descriptor selector.descriptor

@@ -21,7 +21,7 @@ use Rattle.class_code.specs.declared.insn.Insn.TheVariants as insns
 use Rattle.class_code.specs.Code.{Insns, decoded}
 use Rattle.class_tree.specs.Members.{Declaration, in_file, is_called, member_at}
 use Rattle.jvm_model.specs.State.{Value, Whole, Null}
-use Rattle.jvm_model.specs.ProgramOf.{insns_in}
+use Rattle.jvm_model.specs.CodeInsns.{insns_in}
 use Rattle.jvm_model.specs.Resolution.{field_name_at}
 use Rattle.jvm_model.specs.Initialisers.{Pushed, Number, is_whole_kind, pushed_by, is_plain_return}
 use Rattle.jvm_model.specs.Linking.{is_initialiser}

@@ -16,10 +16,10 @@ use Rattle.jvm_model.specs.declared.refusal.Cause.{Cause}
 use Rattle.jvm_model.specs.declared.refusal.Cause.TheVariants as cause
 use Rattle.jvm_model.specs.declared.refusal.Refusal.{Refusal}
 use Rattle.jvm_model.specs.Phases.{first_refusal, refusal_of_insn}
-use Rattle.jvm_model.specs.ProgramOf.{insns_in}
+use Rattle.jvm_model.specs.CodeInsns.{insns_in}
 use Rattle.code_reach.specs.Reached.{Ways, IsReached}
 use Rattle.class_code.specs.Flow.{code_ways}
-use Rattle.jvm_model.specs.BuiltForm.{FirstOf, IfThere}
+use Rattle.jvm_model.specs.FirstOf.{FirstOf, IfThere}
 use Rattle.jvm_model.specs.ClosedSet.{records_of}
 use Rattle.jvm_model.specs.Resolution.{Resolved}
 use Rattle.jvm_model.specs.MethodUses.{initialiser_name}

@@ -7,7 +7,7 @@ use Rattle.body_form.specs.declared.body.Body.{Body}
 use Rattle.jvm_model.specs.declared.refusal.Cause.TheVariants as cause
 use Rattle.jvm_model.specs.declared.refusal.Refusal.{Refusal}
 use Rattle.jvm_model.specs.Phases.{refusal_of_insn}
-use Rattle.jvm_model.specs.BuiltForm.{FirstOf, IfThere}
+use Rattle.jvm_model.specs.FirstOf.{FirstOf, IfThere}
 use Rattle.jvm_model.specs.ClosedSet.{records_of}
 use Rattle.jvm_model.specs.Bodies.{Coded, IsBody, coded_methods}
 use Rattle.jvm_model.specs.TypesRight.{Table, IsRight}

@@ -1,6 +1,5 @@
 pub mod State
 pub mod Numbers
-pub mod Machine
 pub mod SplitState
 pub mod SplitTypes
 pub mod SplitMoves

@@ -1,18 +1,12 @@
--- Numbers on the operands: two cells, the high one on top, or one.
-use Rattle.std.specs.Prelude.{ℕ, ℤ, List, ◌∷◌}
+-- The operations and the conditions on whole numbers that machine instructions name.
 use Rattle.cell_num.specs.declared.arithmetic.BinOp.{BinOp}
 use Rattle.cell_num.specs.declared.arithmetic.BinOp.TheVariants as op
 use Rattle.cell_num.specs.declared.conditions.Cond.{Cond}
 use Rattle.cell_num.specs.declared.conditions.Cond.TheVariants as cond
-use Rattle.cell_num.specs.Cells.{low_cell, high_cell}
 use Rattle.image_instr.specs.declared.insn.Operation.{Operation}
 use Rattle.image_instr.specs.declared.insn.Operation.TheVariants as operation
 use Rattle.image_instr.specs.declared.insn.Condition.{Condition}
 use Rattle.image_instr.specs.declared.insn.Condition.TheVariants as condition
-
--- the number is pushed as two cells
-abbrev pub with_number : ℤ → List ℕ → List ℕ
-with_number number cells = high_cell number ∷ low_cell number ∷ cells
 
 -- the operation on ints that an instruction names
 abbrev pub op_of : Operation → BinOp

@@ -1,6 +1,5 @@
--- A state of the split machine: references and cells stand apart, objects have names and do not move.
+-- Frames and objects of the split machine: references and cells stand apart, objects have names and do not move.
 use Rattle.std.specs.Prelude.{ℕ, List, ◌++◌, Option, reverse}
-use Rattle.dialogue.specs.Answers.{Answers}
 
 -- null, or the name of an object
 abbrev pub Reference : Type 0
@@ -29,14 +28,3 @@ pub record Object : Type 0 where
   pub length : Option ℕ
   pub refs : List Reference
   pub cells : List ℕ
-
--- the frames, the youngest first; the objects by their names 0, 1, 2 and so on; the statics by halves;
--- the answers to the gets that are still to come; the ticks that were used; and the cells of the heap in use
-pub record State : Type 0 where
-  pub frames : List Frame
-  pub objects : List Object
-  pub ref_statics : List Reference
-  pub cell_statics : List ℕ
-  pub answers : Answers
-  pub ticks : ℕ
-  pub used : ℕ

@@ -5,7 +5,7 @@ use Rattle.cell_num.specs.Conditions.{is_met}
 use Rattle.body_form.specs.declared.body.Body.{Body}
 use Rattle.body_form.specs.declared.op.Op.{Op}
 use Rattle.body_form.specs.declared.op.Op.TheVariants as op
-use Rattle.jvm_model.specs.Machine.{restacked, row_target}
+use Rattle.jvm_model.specs.Operands.{restacked, row_target}
 use Rattle.typed_machine.specs.TypedArrays.{numbers_in}
 use Rattle.typed_machine.specs.TypedMoves.{TypedMove}
 use Rattle.typed_machine.specs.TypedState.{Frame, State}

@@ -24,6 +24,8 @@ pub mod SetMethods
 pub mod ReadInitialisers
 -- the selectors
 pub mod SetSelectors
+-- no selector has the name of an initialiser
+pub mod PlainSelectors
 -- the types are the classes
 pub mod ShownTypes
 -- fields of objects

@@ -1,9 +1,9 @@
--- The image of an accepted set of files of bytes is of the grammar, where no selector has the name of an initialiser.
+-- The image of an accepted set of files of bytes is of the grammar.
 use Rattle.std.proofs.Common.{refl}
 use Rattle.type_safety.specs.Starts.{StartsFit}
 use Rattle.body_limits.specs.Limits.{ParametersAreFew}
 use Rattle.set_compile.specs.Compiled.{SetsCompile}
-use Rattle.set_grammar.specs.PlainSets.{PlainImagesAreImages}
+use Rattle.set_grammar.specs.Grammars.{SetImagesAreImages}
 use Rattle.set_grammar.proofs.SetMain.{main_is}
 use Rattle.set_grammar.proofs.SetMethods.{methods_are}
 use Rattle.set_grammar.proofs.SetRows.{rows_are}
@@ -11,8 +11,8 @@ use Rattle.set_grammar.proofs.SetSelectors.{selectors_are}
 use Rattle.set_grammar.proofs.SetStatics.{statics_are}
 use Rattle.set_grammar.proofs.SetTypes.{types_are}
 
-pub images_are_images : SetsCompile → StartsFit → ParametersAreFew → PlainImagesAreImages
-images_are_images compile starts parameters files linked bytes is plain =
+pub images_are_images : SetsCompile → StartsFit → ParametersAreFew → SetImagesAreImages
+images_are_images compile starts parameters files linked bytes is =
     let types = types_are files linked bytes is in
     let selectors = selectors_are files linked is in
     let methods = methods_are compile parameters files linked is in
@@ -29,5 +29,5 @@ images_are_images compile starts parameters files linked bytes is plain =
       static_cells_fit = statics.cells;
       static_cells_are = statics.are;
       main_is = main_is compile starts files linked is;
-      rows_are = rows_are compile files linked is plain;
+      rows_are = rows_are compile files linked is;
     }

@@ -1,6 +1,6 @@
--- The rows of the classes of an accepted set have the signatures of their selectors, where no selector has the name of an
--- initialiser: a row is of a method that is declared with the selector's descriptor, has code, and is called on an object.
-use Rattle.std.proofs.Common.{◌≡◌, inl, inr, ℕ, suc, ◌+◌, ◌-◌, ◌≤◌, Bool, true, false, not, nat_eq, if◌then◌else◌, List, [], ◌∷◌, ◌++◌, slice_get, Option, Some, None, option_map, refl, sym, ap, subst, ◌∙◌, arith}
+-- The rows of the classes of an accepted set have the signatures of their selectors: a row is of a method that is declared
+-- with the selector's descriptor, has code, and is called on an object.
+use Rattle.std.proofs.Common.{◌≡◌, inl, inr, ℕ, suc, ◌+◌, ◌-◌, ◌≤◌, Bool, true, false, nat_eq, if◌then◌else◌, List, [], ◌∷◌, ◌++◌, slice_get, Option, Some, None, option_map, refl, sym, ap, subst, ◌∙◌, arith}
 use Rattle.std.specs.List.{AllByRecursion, cons_option, filter_map, flat_map}
 use Rattle.std.specs.Option.{option_map_or}
 use Rattle.std.specs.Str.{bytes_eq}
@@ -39,7 +39,7 @@ use Rattle.type_safety.proofs.facts.Declared.{file_at}
 use Rattle.type_safety.proofs.facts.FoundMethods.{IsSelected, lacks_none, selected, selects_body}
 use Rattle.type_safety.proofs.facts.LibraryMethods.{library_method, static_or_constructor}
 use Rattle.type_safety.proofs.facts.RunMethods.{IsCalled, has_code_where, method_of_file, runs_body}
-use Rattle.type_safety.proofs.fitting.SetLists.{all_contained, false_is_true, true_or_false}
+use Rattle.type_safety.proofs.fitting.SetLists.{all_contained, false_is_true, not_true_is, true_or_false}
 use Rattle.match_states.specs.Setting.{IsCompiledBody, Setting, id_for, source_for}
 use Rattle.match_code.proofs.MatchedCode.{found_body}
 use Rattle.set_image.specs.Linked.{Linked, IsOfFiles, bodies_of, image_in, numbering_in}
@@ -47,10 +47,10 @@ use Rattle.set_image.specs.LinkRefusals.{IsAccepted}
 use Rattle.set_image.proofs.NoRefusals.{no_refusal}
 use Rattle.set_compile.specs.Compiled.{SetsCompile}
 use Rattle.set_compile.specs.Settings.{setting_of, world_of}
-use Rattle.set_grammar.specs.Parts.{HasRows}
-use Rattle.set_grammar.specs.PlainSets.{IsPlain, OfEachPlainImage}
+use Rattle.set_grammar.specs.Parts.{HasRows, OfEachImage}
 use Rattle.set_grammar.proofs.ClassUppers.{entries}
 use Rattle.set_grammar.proofs.EachItems.{each_of_all}
+use Rattle.set_grammar.proofs.PlainSelectors.{IsPlain, all_plain}
 use Rattle.set_grammar.proofs.SetMain.{is_placed}
 use Rattle.set_grammar.proofs.SetSelectors.{IsFew, selectors_few, selectors_have}
 use Rattle.set_grammar.proofs.ShownTypes.{types_are_classes}
@@ -62,15 +62,11 @@ record IsGood (selector : Selector) : Type 0 where
   method : bytes_eq selector.name constructor_name ≡ false
   plain : IsPlain selector
 
-not_is : (b : Bool) → not b ≡ true → b ≡ false
-not_is true e = absurd (let bad : false ≡ true = e in cc)
-not_is false e = refl
-
 -- no constructor is selected
 no_constructors : (files : List ClassFile) → AllByRecursion (λ (selector : Selector). bytes_eq selector.name constructor_name ≡ false) (selector_order files)
 no_constructors files =
     selectors_have files (λ d. bytes_eq d.name constructor_name ≡ false) (λ selector. bytes_eq selector.name constructor_name ≡ false) (λ d e. e)
-    (λ class. all_each (λ d. is_selected d ≡ true → bytes_eq d.name constructor_name ≡ false) (λ d e. not_is (bytes_eq d.name constructor_name) (and_parts _ _ (and_parts _ _ e).1).1) (methods_of files class))
+    (λ class. all_each (λ d. is_selected d ≡ true → bytes_eq d.name constructor_name ≡ false) (λ d e. not_true_is (bytes_eq d.name constructor_name) (and_parts _ _ (and_parts _ _ (and_parts _ _ e).1).1).0) (methods_of files class))
 
 -- ---- flags
 
@@ -228,12 +224,11 @@ module _ (compile : SetsCompile) (files : List (List ℕ)) (linked : Linked) (is
         let same : (image_in linked).types ≡ entries classes numbering (class_order classes) = ap (flat_map (entry_of classes numbering)) (types_are_classes linked (no_refusal linked is.accepted)) in
         each_of_all HasAll (image_in linked).types (subst (AllByRecursion HasAll) (sym same) (all_entries (class_order classes)))
 
--- where no selector has the name of an initialiser
-pub rows_are : SetsCompile → OfEachPlainImage HasRows
-rows_are compile files linked is plain =
+pub rows_are : SetsCompile → OfEachImage HasRows
+rows_are compile files linked is =
     let selectors = selector_order linked.classes in
     some_types compile files linked is
     (all_both (λ (s : Selector). IsFew s.descriptor) (λ (s : Selector). (bytes_eq s.name constructor_name ≡ false) × IsPlain s) IsGood (λ s few both. record { few = few; method = both.0; plain = both.1 }) selectors
     (selectors_few files linked is.of_files)
     (all_both (λ (s : Selector). bytes_eq s.name constructor_name ≡ false) IsPlain (λ (s : Selector). (bytes_eq s.name constructor_name ≡ false) × IsPlain s) (λ s method plain. (method, plain)) selectors
-    (no_constructors linked.classes) plain))
+    (no_constructors linked.classes) (all_plain linked)))

@@ -32,7 +32,7 @@ use Rattle.type_safety.proofs.facts.CodeRead.{IsRead, files_read}
 use Rattle.type_safety.proofs.facts.Declared.{file_at}
 use Rattle.type_safety.proofs.facts.ReadRules.{MethodRules}
 use Rattle.type_safety.proofs.facts.RunMethods.{own_file}
-use Rattle.type_safety.proofs.fitting.SetLists.{all_at, none_some, same_some}
+use Rattle.type_safety.proofs.fitting.SetLists.{all_at, none_some, not_true_is, same_some}
 use Rattle.set_compile.proofs.KeyedLists.{all_flat}
 use Rattle.set_image.specs.Linked.{Linked, IsOfFiles, numbering_in}
 use Rattle.set_image.proofs.CountLimits.{are_within}
@@ -111,10 +111,6 @@ module _ (pool : Slots) (m : Member) (flags : ℕ) (rules : MethodRules flags po
 abbrev pub IsFewWhere : Declaration → Type 0
 IsFewWhere d = is_selected d ≡ true → IsFew d.descriptor
 
-not_is : (b : Bool) → not b ≡ true → b ≡ false
-not_is true e = absurd (let bad : false ≡ true = e in cc)
-not_is false e = refl
-
 native_where : (n : Native) → IsFewWhere (in_library n)
 native_where native.Construct e = absurd (let bad : false ≡ true = e in cc)
 native_where native.Write e = absurd (let bad : false ≡ true = e in cc)
@@ -125,7 +121,7 @@ file_where : (file : ClassFile) → IsRead file → KeepsInitialisers file → A
 file_where file read keeps =
     all_given IsFewWhere (in_file file.pool) file.methods
     (all_both (MethodRules file.flags file.pool) (KeepsInitialiser file.pool) (λ m. IsFewWhere (in_file file.pool m))
-    (λ m rules kept selected. method_few file.pool m file.flags rules kept (not_is (is_static m.flags) (and_parts _ _ selected).0))
+    (λ m rules kept selected. method_few file.pool m file.flags rules kept (not_true_is (is_static m.flags) (and_parts _ _ selected).0))
     file.methods read.rules.methods keeps)
 
 module _ (files : List ClassFile) (read : AllByRecursion IsRead files) (keep : AllByRecursion KeepsInitialisers files) where

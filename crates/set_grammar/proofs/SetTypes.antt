@@ -31,8 +31,7 @@ use Rattle.type_safety.proofs.fitting.SetLists.{all_at}
 use Rattle.set_image.specs.Linked.{image_in, numbering_in}
 use Rattle.set_image.proofs.CountLimits.{AreWithin, are_within}
 use Rattle.set_image.proofs.NoRefusals.{no_refusal}
-use Rattle.set_grammar.specs.Parts.{HasTypes}
-use Rattle.set_grammar.specs.PlainSets.{OfEachImageOfBytes}
+use Rattle.set_grammar.specs.Parts.{HasTypes, OfEachImageOfBytes}
 use Rattle.set_grammar.proofs.ClassRows.{good_rows}
 use Rattle.set_grammar.proofs.ClassUppers.{IsBefore, by_place, each_among, entries, entries_few, entries_join, flags_few, flags_tell, library_id_is, one_entry, placed, some_file, superinterfaces_are, superinterfaces_few}
 use Rattle.set_grammar.proofs.EachItems.{each_of_all}

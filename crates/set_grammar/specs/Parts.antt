@@ -2,12 +2,17 @@
 use Rattle.std.specs.Prelude.{ℕ, ◌^◌, ◌<◌, ◌≤◌, List, [], length}
 use Rattle.image_form.specs.declared.record.Image.{Image}
 use Rattle.image_form.specs.Grammar.{Each, EachAfter, HasSignatures, IsMain, IsMethod, IsSelector, IsType, most_methods, most_types}
+use Rattle.jvm_model.specs.Verdict.{AreBytes}
 use Rattle.set_image.specs.Linked.{Linked, image_in}
 use Rattle.set_image.specs.LinkRefusals.{IsAccepted}
 
 -- of the image of each accepted set this holds
 abbrev pub OfEachImage : (Image → Type 0) → Type 0
 OfEachImage Holds = (files : List (List ℕ)) (linked : Linked) → IsAccepted files linked → Holds (image_in linked)
+
+-- of the image of each accepted set of files of bytes this holds
+abbrev pub OfEachImageOfBytes : (Image → Type 0) → Type 0
+OfEachImageOfBytes Holds = (files : List (List ℕ)) (linked : Linked) → AreBytes files → IsAccepted files linked → Holds (image_in linked)
 
 -- the types are few enough, and each stands behind those that it names
 pub record HasTypes (image : Image) : Type 0 where

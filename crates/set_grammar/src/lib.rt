@@ -1,12 +1,12 @@
 //! That the image of an accepted set keeps to the grammar of infusions. Of each set it is proved of the selectors, the
-//! methods, main and the statics (specs/Parts.antt), and of each set of files of bytes of the types. Of the rows of classes,
-//! and so of the image as a whole, it is proved where no selector has the name of an initialiser (specs/PlainSets.antt).
+//! methods, main, the statics and the rows of classes (specs/Parts.antt), and of each set of files of bytes of the types and
+//! of the image as a whole (specs/Grammars.antt).
 //! This crate has no code of its own. It stands on `set_image`, `set_compile`, `image_form`, `body_limits`, `type_safety`,
 //! `match_starts`, `class_order` and `follow_numbers`.
 #![tactic(auto)]
 
-ghost use Rattle.set_grammar.specs.Parts.{OfEachImage, HasMain, HasMethods, HasRows, HasSelectors, HasStatics, HasTypes};
-ghost use Rattle.set_grammar.specs.PlainSets.{OfEachImageOfBytes, OfEachPlainImage, PlainImagesAreImages};
+ghost use Rattle.set_grammar.specs.Grammars.{SetImagesAreImages};
+ghost use Rattle.set_grammar.specs.Parts.{OfEachImage, OfEachImageOfBytes, HasMain, HasMethods, HasRows, HasSelectors, HasStatics, HasTypes};
 
 use body_limits::bodies_keep_limits;
 use set_compile::sets_compile;
@@ -28,12 +28,12 @@ pub fn set_images_have_selectors()
     ensures selectors { OfEachImage HasSelectors }
 {}
 
-/// The types of the image of a set of files of bytes that no phase refuses keep to the grammar. Where no selector has the
-/// name of an initialiser, the rows of classes do too, and the image as a whole.
-pub fn plain_images_are_images()
+/// In the image of a set of files that no phase refuses, the rows of classes keep to the grammar. Where the files are bytes,
+/// the types do too, and the image as a whole.
+pub fn set_images_are_images()
     ensures types { OfEachImageOfBytes HasTypes }
-    ensures rows { OfEachPlainImage HasRows }
-    ensures images { PlainImagesAreImages }
+    ensures rows { OfEachImage HasRows }
+    ensures images { SetImagesAreImages }
 {
     sets_compile();
     typed_code_starts();

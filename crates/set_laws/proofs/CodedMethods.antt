@@ -11,7 +11,7 @@ use Rattle.class_code.specs.declared.refusal.CodeRefusal.{CodeRefusal}
 use Rattle.class_code.specs.Code.{Insns, RiseFrom, first_astray, unless_astray, with_targets, insns_of, decoded}
 use Rattle.class_code.proofs.Laws.{reads-rise}
 use Rattle.class_tree.specs.Set.{IsClass}
-use Rattle.jvm_model.specs.ProgramOf.{insns_in}
+use Rattle.jvm_model.specs.CodeInsns.{insns_in}
 use Rattle.jvm_model.specs.Linking.{is_initialiser}
 use Rattle.jvm_model.specs.Bodies.{Coded, coded_of, coded_from, coded_in, coded_methods}
 

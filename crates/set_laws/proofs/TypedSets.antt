@@ -8,7 +8,7 @@ use Rattle.class_tree.specs.declared.refusal.TreeRefusal.{TreeRefusal}
 use Rattle.class_tree.proofs.OneAnswer.{gathers_total, gathers_unique}
 use Rattle.body_form.specs.declared.body.Body.{Body}
 use Rattle.jvm_model.specs.declared.refusal.Refusal.{Refusal}
-use Rattle.jvm_model.specs.BuiltForm.{FirstOf}
+use Rattle.jvm_model.specs.FirstOf.{FirstOf}
 use Rattle.jvm_model.specs.ClosedSet.{records_of}
 use Rattle.jvm_model.specs.Bodies.{Coded, IsBody, coded_methods}
 use Rattle.jvm_model.specs.TypesNames.{IsOfSet}

@@ -1,7 +1,8 @@
-//! Laws on sets of class files: each has one verdict, what belongs to an accepted set is one, and so are its image and
-//! the ways in which its runs end. This crate has no code of its own. It stands on `jvm_model` and `type_rounds`.
+//! The phases of the verdict on a set of class files, up to that of types: each is a function, of sets of files of bytes.
+//! That methods with code stand in classes of the set, and that the phase of types has one answer, are lemmas. This crate
+//! has no code of its own. It stands on `jvm_model` and `type_rounds`.
 #![tactic(auto)]
 
 mod laws;
 
-pub use laws::{limits_cut, one_outcome, one_verdict, sets_are_linked};
+pub use laws::early_phases_are_functions;

@@ -10,10 +10,10 @@ use Rattle.class_tree.specs.Tree.{Gathers}
 use Rattle.jvm_model.specs.declared.refusal.Cause.TheVariants as cause
 use Rattle.jvm_model.specs.declared.refusal.Refusal.{Refusal}
 use Rattle.jvm_model.specs.Phases.{first_refusal, code_refusal, reading_refusal, record_in, unless_read, MethodCode, Reading}
-use Rattle.jvm_model.specs.BuiltForm.{IfThere, refusal_by}
+use Rattle.jvm_model.specs.FirstOf.{IfThere}
 use Rattle.jvm_model.specs.ClosedSet.{ClosedClasses, ClosedSet, records_of}
 use Rattle.jvm_model.specs.Linking.{Linking, Members}
-use Rattle.jvm_model.specs.Entry.{entry_of, Entering, EntryPoint}
+use Rattle.jvm_model.specs.Entry.{entry_of, refusal_by, Entering, EntryPoint}
 use Rattle.jvm_model.specs.Bodies.{coded_methods}
 use Rattle.jvm_model.specs.Verification.{Typing, IsClosed, Verification}
 use Rattle.jvm_model.proofs.phases.ClosedSets.{closed_total, closed_unique}

@@ -20,8 +20,8 @@ use Rattle.body_form.specs.declared.op.Op.TheVariants as op
 use Rattle.body_form.specs.Flow.{Ops}
 use Rattle.jvm_model.specs.declared.refusal.Refusal.{Refusal}
 use Rattle.jvm_model.specs.Phases.{first_refusal}
-use Rattle.jvm_model.specs.ProgramOf.{insns_in}
-use Rattle.jvm_model.specs.BuiltForm.{FirstOf, IfThere}
+use Rattle.jvm_model.specs.CodeInsns.{insns_in}
+use Rattle.jvm_model.specs.FirstOf.{FirstOf, IfThere}
 use Rattle.jvm_model.specs.Resolution.{Resolved}
 use Rattle.jvm_model.specs.Instructions.{op_of, caught_by}
 use Rattle.jvm_model.specs.Linking.{fault_of, refusal_at, row_refusal, is_initialiser, NamesOf, IsSkipped, IsTested, CodeNames, MethodNames, ClassLinks, Linking}

@@ -6,7 +6,7 @@ use Rattle.jvm_model.specs.declared.refusal.Refusal.{Refusal}
 use Rattle.jvm_model.specs.Verdict.{AreBytes, IsFunction, AreFunctions}
 use Rattle.jvm_model.proofs.phases.Decisions.{Decided}
 use Rattle.jvm_model.proofs.phases.PhaseLists.{first_total, first_unique}
-use Rattle.set_laws.proofs.VerdictLaws as number
+use Rattle.set_laws.proofs.EarlyPhases.{early_phase_functions}
 use Rattle.set_image.specs.Linked.{Linked, IsOfFiles, bodies_of, numbering_in, image_in}
 use Rattle.set_image.specs.LinkRefusals.{count_refusal, first_of, form_refusal, frame_refusal, length_refusal, link_refusal}
 use Rattle.set_verdict.specs.Phases.{OfLinked, WhereLinked, WhereNot}
@@ -37,10 +37,10 @@ of_linked_function refusal = record { total = λ files bytes. of_linked_total re
 
 -- ---- the verdict
 
--- those up to that of types are those of the number form
+-- those up to that of types, and those of the set of files that are linked
 pub phase_functions : AreFunctions phases
 phase_functions =
-    let first = number.phase_functions in (
+    let first = early_phase_functions in (
       first.0,
       (
         first.1.0,
@@ -100,10 +100,10 @@ accepted_linked files accepted =
           (of_this (λ linked. first_of (length_refusal (numbering_in linked)) linked.code) files linked made.1 late.1.1.1.0),
     )
 
-pub image_there : (files : List (List ℕ)) → Accepted files → (image : Image) × IsImageOf files image
-image_there files accepted =
+pub image_there : (files : List (List ℕ)) → AreBytes files → Accepted files → (image : Image) × IsImageOf files image
+image_there files bytes accepted =
     let set = accepted_linked files accepted in
-    (image_in set.0, record { accepted = accepted; linked = set.0; of_files = set.1; image_is = refl })
+    (image_in set.0, record { bytes = bytes; accepted = accepted; linked = set.0; of_files = set.1; image_is = refl })
 
 pub image_is_one : (files : List (List ℕ)) (first second : Image) → IsImageOf files first → IsImageOf files second → first ≡ second
 image_is_one files first second p q = p.image_is ∙ ap image_in (one_linked files p.linked q.linked p.of_files q.of_files) ∙ sym q.image_is

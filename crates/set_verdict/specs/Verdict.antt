@@ -7,7 +7,7 @@ use Rattle.jvm_model.specs.Phases.{SetSize, Reading, MethodCode}
 use Rattle.jvm_model.specs.ClosedSet.{ClosedSet}
 use Rattle.jvm_model.specs.Linking.{Members}
 use Rattle.jvm_model.specs.Entry.{EntryPoint}
-use Rattle.jvm_model.specs.Verdict.{Phase, FirstRefusal}
+use Rattle.jvm_model.specs.Verdict.{AreBytes, Phase, FirstRefusal}
 use Rattle.jvm_model.specs.Verification.{Verification}
 use Rattle.set_image.specs.Linked.{Linked, IsOfFiles, image_in}
 use Rattle.set_verdict.specs.Phases.{BuiltForm, FrameSize, Counts, CodeLength}
@@ -37,8 +37,9 @@ Accepted files = Verdict files None
 abbrev pub IsRefused : List (List ℕ) → Refusal → Type 0
 IsRefused files refusal = Verdict files (Some refusal)
 
--- the set is accepted, and this is its image
+-- the files are of bytes, the set is accepted, and this is its image
 pub record IsImageOf (files : List (List ℕ)) (image : Image) : Type 0 where
+  pub bytes : AreBytes files
   pub accepted : Accepted files
   pub linked : Linked
   pub of_files : IsOfFiles files linked

@@ -18,6 +18,6 @@ pub fn one_verdict()
     ensures phases { AreFunctions phases }
     ensures total { (files : List (List ℕ)) → AreBytes files → (found : Option Refusal) × Verdict files found }
     ensures unique { (files : List (List ℕ)) (first second : Option Refusal) → Verdict files first → Verdict files second → first ≡ second }
-    ensures image { (files : List (List ℕ)) → Accepted files → (image : Image) × IsImageOf files image }
+    ensures image { (files : List (List ℕ)) → AreBytes files → Accepted files → (image : Image) × IsImageOf files image }
     ensures one_image { (files : List (List ℕ)) (first second : Image) → IsImageOf files first → IsImageOf files second → first ≡ second }
 {}

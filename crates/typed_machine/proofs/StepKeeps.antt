@@ -17,7 +17,7 @@ use Rattle.body_form.specs.declared.op.FieldUse.{FieldUse}
 use Rattle.body_form.specs.declared.op.Op.{Op}
 use Rattle.body_form.specs.declared.op.Op.TheVariants as op
 use Rattle.body_form.specs.declared.op.UnaryOp.{UnaryOp}
-use Rattle.jvm_model.specs.Machine.{restacked, row_target}
+use Rattle.jvm_model.specs.Operands.{restacked, row_target}
 use Rattle.jvm_model.specs.State.{Value, Whole, Null, Name}
 use Rattle.typed_machine.specs.TypedArrays.{numbers_in}
 use Rattle.typed_machine.specs.TypedCalls.{kept_as}

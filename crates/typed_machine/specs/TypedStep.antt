@@ -23,7 +23,7 @@ use Rattle.body_form.specs.declared.op.Op.{Op}
 use Rattle.body_form.specs.declared.op.Op.TheVariants as op
 use Rattle.body_form.specs.declared.op.UnaryOp.{UnaryOp}
 use Rattle.body_form.specs.declared.op.UnaryOp.TheVariants as unary
-use Rattle.jvm_model.specs.Machine.{restacked, row_target}
+use Rattle.jvm_model.specs.Operands.{restacked, row_target}
 use Rattle.jvm_model.specs.State.{Value, Whole, Null, Name}
 use Rattle.typed_machine.specs.TypedArrays.{make_array, make_arrays, numbers_in, array_length, array_load, array_store}
 use Rattle.typed_machine.specs.TypedCalls.{kept_as, call_static, call_special, call_virtual, call_interface, returns, return_value}

@@ -179,10 +179,6 @@ refused_so bytes Memory r = absurd r
 pub no_memory : (bytes : List ℕ) → IsBytes bytes → class_of bytes ≡ Err Memory → ⊥
 no_memory bytes fits e = refused_is bytes Memory fits e
 
--- the bytes of a class file begin with the magic
-pub begins : (bytes : List ℕ) (file : ClassFile) → IsClassFile bytes file → take 4 bytes ≡ magic
-begins bytes file is = ap (take 4) is.1.encoded ∙ take_at magic (body_bytes is.0) 4 refl
-
 -- ---- both ways
 
 pub file_exactly : (bytes : List ℕ) (file : ClassFile) → IsBytes bytes → (class_of bytes ≡ Ok file) ↔ IsClassFile bytes file

@@ -6,7 +6,7 @@ use Rattle.class_tree.specs.declared.refusal.TreeRefusal.{TreeRefusal}
 use Rattle.class_tree.specs.Tree.{Gathers}
 use Rattle.class_tree.proofs.OneAnswer.{gathers_total, gathers_unique}
 use Rattle.jvm_model.specs.declared.refusal.Refusal.{Refusal}
-use Rattle.jvm_model.specs.BuiltForm.{IfThere}
+use Rattle.jvm_model.specs.FirstOf.{IfThere}
 use Rattle.jvm_model.specs.ClosedSet.{records_of, refusal_of_tree, ClosedClasses, ClosedSet}
 
 classes_total : (classes : List ClassFile) → (found : Option Refusal) × ClosedClasses classes found

@@ -3,7 +3,7 @@
 use Rattle.std.proofs.Common.{◌≡◌, inl, inr, ℕ, suc, List, [], ◌∷◌, Option, Some, None, refl, sym, ◌∙◌}
 use Rattle.std.proofs.lemmas.Option.{none-some}
 use Rattle.jvm_model.specs.declared.refusal.Refusal.{Refusal}
-use Rattle.jvm_model.specs.BuiltForm.{FirstOf, IfThere}
+use Rattle.jvm_model.specs.FirstOf.{FirstOf, IfThere}
 use Rattle.jvm_model.specs.Linking.{OrElse}
 
 -- two refusals, or none, of the same are one

@@ -10,9 +10,9 @@ use Rattle.class_code.specs.Flow.{code_ways}
 use Rattle.code_reach.specs.Reached.{Ways}
 use Rattle.jvm_model.specs.declared.refusal.Refusal.{Refusal}
 use Rattle.jvm_model.specs.Phases.{first_refusal}
-use Rattle.jvm_model.specs.ProgramOf.{insns_in}
+use Rattle.jvm_model.specs.CodeInsns.{insns_in}
 use Rattle.jvm_model.specs.Instructions.{op_of}
-use Rattle.jvm_model.specs.BuiltForm.{FirstOf, IfThere}
+use Rattle.jvm_model.specs.FirstOf.{FirstOf, IfThere}
 use Rattle.jvm_model.specs.Linking.{declared_refusal, fault_of, refusal_at, row_refusal, NamesOf, IsSkipped, IsTested, CodeNames, MethodNames, ClassLinks, Linking, Members}
 use Rattle.jvm_model.specs.Entry.{entry_refusal, Entering, EntryPoint}
 use Rattle.jvm_model.specs.ClosedSet.{records_of}

@@ -4,7 +4,7 @@ use Rattle.std.specs.Option.{option_or}
 use Rattle.std.proofs.lemmas.List.{drop_all}
 use Rattle.jvm_model.specs.declared.refusal.Refusal.{Refusal}
 use Rattle.jvm_model.specs.Phases.{first_refusal}
-use Rattle.jvm_model.specs.BuiltForm.{FirstOf}
+use Rattle.jvm_model.specs.FirstOf.{FirstOf}
 
 -- the items from a position on
 from_position : {X : Type 0} (xs : List X) (i : ℕ) (x : X) → i < length xs → x ≡ get_or xs i x → drop i xs ≡ x ∷ drop (suc i) xs

@@ -10,7 +10,7 @@ use Rattle.class_code.proofs.Laws.{reads-rise, code-found}
 use Rattle.class_tree.specs.Set.{IsClass}
 use Rattle.body_form.specs.declared.body.Body.{Body}
 use Rattle.jvm_model.specs.Bodies.{Coded, IsBody}
-use Rattle.jvm_model.specs.ProgramOf.{insns_in}
+use Rattle.jvm_model.specs.CodeInsns.{insns_in}
 use Rattle.jvm_model.specs.TypesNames.{IsOfSet}
 use Rattle.jvm_model.proofs.bodies.BodyNames.{of_set}
 use Rattle.type_safety.proofs.fitting.SetLists.{none_some, same_some, all_at}

@@ -11,7 +11,7 @@ use Rattle.class_file.specs.declared.record.CodeAttr.{CodeAttr}
 use Rattle.class_file.specs.declared.record.Member.{Member}
 use Rattle.class_code.specs.Code.{Insns, decoded}
 use Rattle.body_form.specs.declared.body.Body.{Body}
-use Rattle.jvm_model.specs.ProgramOf.{insns_in}
+use Rattle.jvm_model.specs.CodeInsns.{insns_in}
 use Rattle.jvm_model.specs.Linking.{is_initialiser}
 use Rattle.jvm_model.specs.Bodies.{Coded, coded_of, coded_from, coded_in, coded_methods, IsBody, AreBodies}
 use Rattle.typed_machine.specs.TypedWorld.{is_of, body_among}

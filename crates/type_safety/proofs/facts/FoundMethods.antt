@@ -21,7 +21,7 @@ use Rattle.class_tree.proofs.ancestors.Superclasses.{IsRanked}
 use Rattle.class_tree.proofs.merging.SubtypeFits.{supers_lead}
 use Rattle.jvm_model.specs.declared.refusal.Refusal.{Refusal}
 use Rattle.jvm_model.specs.Phases.{refusal_of_insn}
-use Rattle.jvm_model.specs.BuiltForm.{FirstOf}
+use Rattle.jvm_model.specs.FirstOf.{FirstOf}
 use Rattle.jvm_model.specs.MethodUses.{has_code}
 use Rattle.jvm_model.specs.Overrides.{at_or_above, lacks_body, lacks_bodies, hides_interface}
 use Rattle.jvm_model.specs.Linking.{ClassLinks, Linking, refuse_where, override_refusal, declared_refusal}

@@ -29,7 +29,7 @@ use Rattle.class_tree.proofs.ancestors.Superclasses.{IsRanked, ranked as ranks_o
 use Rattle.jvm_model.specs.Bodies.{AreBodies, IsFamily, IsResolved, IsNop}
 use Rattle.jvm_model.specs.Instructions.{op_of}
 use Rattle.jvm_model.specs.Linking.{Linking}
-use Rattle.jvm_model.specs.ProgramOf.{insns_in}
+use Rattle.jvm_model.specs.CodeInsns.{insns_in}
 use Rattle.jvm_model.specs.MethodUses.{initialiser_name}
 use Rattle.jvm_model.specs.TypesRight.{IsRight}
 use Rattle.jvm_model.specs.TypesRules.{op_at, makes_class}

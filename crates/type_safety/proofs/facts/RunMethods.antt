@@ -25,7 +25,7 @@ use Rattle.class_tree.specs.Set.{file_of, flags_of}
 use Rattle.class_tree.specs.Members.{Declaration, in_file, in_library, methods_of}
 use Rattle.body_form.specs.declared.op.MethodUse.{MethodUse}
 use Rattle.jvm_model.specs.Bodies.{AreBodies}
-use Rattle.jvm_model.specs.ProgramOf.{insns_in}
+use Rattle.jvm_model.specs.CodeInsns.{insns_in}
 use Rattle.class_code.specs.Code.{decoded}
 use Rattle.jvm_model.specs.Linking.{is_initialiser}
 use Rattle.jvm_model.specs.MethodUses.{constructor_name, initialiser_name, has_code}

@@ -16,7 +16,7 @@ use Rattle.body_form.specs.declared.types.VFrame.{VFrame}
 use Rattle.body_form.specs.declared.types.VType.{VType}
 use Rattle.body_form.specs.declared.types.VType.TheVariants.{Top, Int}
 use Rattle.jvm_model.specs.Bodies.{AreEach}
-use Rattle.jvm_model.specs.Machine.{restacked}
+use Rattle.jvm_model.specs.Operands.{restacked}
 use Rattle.jvm_model.specs.State.{Value, Whole}
 use Rattle.jvm_model.specs.TypesFrames.{is_int}
 use Rattle.jvm_model.specs.TypesRules.{Change, changed, plain, has_kind, moves}

@@ -19,7 +19,7 @@ use Rattle.body_form.specs.declared.op.Literal.TheVariants as literal
 use Rattle.body_form.specs.declared.op.Op.TheVariants as op
 use Rattle.body_form.specs.declared.op.UnaryOp.{UnaryOp}
 use Rattle.body_form.specs.declared.types.VType.TheVariants as known
-use Rattle.jvm_model.specs.Machine.{row_target}
+use Rattle.jvm_model.specs.Operands.{row_target}
 use Rattle.jvm_model.specs.State.{Value, Whole}
 use Rattle.jvm_model.specs.TypesFrames.{is_int}
 use Rattle.jvm_model.specs.TypesRules.{is_constructed}

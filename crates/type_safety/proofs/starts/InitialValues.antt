@@ -26,7 +26,7 @@ use Rattle.body_form.specs.declared.types.VType.TheVariants as known
 use Rattle.jvm_model.specs.Initialisers.{Pushed, Number, Null as PushedNull, is_plain_return, is_whole_kind, pushed_by}
 use Rattle.jvm_model.specs.InitialStatics.{kind_of as member_kind, kept, written_by, writes_from, writes_in, writes_of, last_write, constant_of, set_last, initial_value, narrowed, static_at, statics_in, statics_from}
 use Rattle.jvm_model.specs.Linking.{is_initialiser}
-use Rattle.jvm_model.specs.ProgramOf.{insns_in}
+use Rattle.jvm_model.specs.CodeInsns.{insns_in}
 use Rattle.jvm_model.specs.Resolution.{field_name_at}
 use Rattle.jvm_model.specs.State.{Value, Whole, Null}
 use Rattle.typed_machine.specs.TypedRun.{statics_of}

@@ -1,7 +1,7 @@
 use Rattle.set_grammar.proofs.SetGrammars.{images_are_images}
 use Rattle.set_grammar.proofs.SetRows.{rows_are}
 use Rattle.set_grammar.proofs.SetTypes.{types_are}
-use Rattle.set_grammar.proofs.plain_images_are_images.Goals as goal
+use Rattle.set_grammar.proofs.set_images_are_images.Goals as goal
 
 pub returns-clause-types : goal.returns-clause-types
 returns-clause-types c = types_are
