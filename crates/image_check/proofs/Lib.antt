@@ -18,5 +18,7 @@ pub mod Flowing
 pub mod Ending
 -- a rule that fails is one that an image does not keep
 pub mod Apart
+-- the methods of an image, one by one
+pub mod Methods
 -- the table of dimensions, type by type
 pub mod ArrayTables

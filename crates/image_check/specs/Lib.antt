@@ -9,5 +9,4 @@ pub mod Listing
 pub mod Targets
 pub mod Table
 pub mod Flow
-pub mod Names
 pub mod Dimensions

@@ -3,31 +3,69 @@
 ghost use Rattle.std.specs.Prelude.{◌≡◌, true, IfNone, IfSome};
 ghost use Rattle.std.specs.List.{AllByRecursion};
 ghost use Rattle.image_check.specs.Code.{CodeIs};
-ghost use Rattle.image_check.specs.Built.{is_built as is_built_of};
+ghost use Rattle.image_check.specs.Built.{is_built as is_built_of, is_plain as is_plain_of, is_static_call as is_static_call_of};
 ghost use Rattle.image_check.specs.Refused.{IsUnbuiltAt};
 
 use image_form::Method;
-use image_instr::{Kind, MInsn, Width};
+use image_instr::MInsn;
+use library::FIRST_OWN;
+
+/// Whether the instruction is of whole numbers, locals, operands, jumps or statics.
+fn is_plain(insn: MInsn) -> bool
+    ensures { result ≡ is_plain_of insn }
+{
+    matches!(
+        insn,
+        MInsn::Const1 { .. }
+            | MInsn::Const2 { .. }
+            | MInsn::Small1 { .. }
+            | MInsn::Small2 { .. }
+            | MInsn::Mid2 { .. }
+            | MInsn::Null
+            | MInsn::Load { .. }
+            | MInsn::Store { .. }
+            | MInsn::RClear { .. }
+            | MInsn::Inc { .. }
+            | MInsn::RDupX { .. }
+            | MInsn::DupX { .. }
+            | MInsn::RPop { .. }
+            | MInsn::Pop { .. }
+            | MInsn::RSwap
+            | MInsn::Swap { .. }
+            | MInsn::Drop { .. }
+            | MInsn::Bin { .. }
+            | MInsn::Neg { .. }
+            | MInsn::Sx
+            | MInsn::Zx
+            | MInsn::Sb
+            | MInsn::Bit
+            | MInsn::Jz { .. }
+            | MInsn::JCmp { .. }
+            | MInsn::RJ { .. }
+            | MInsn::Goto { .. }
+            | MInsn::Switch { .. }
+            | MInsn::Table { .. }
+            | MInsn::GetS { .. }
+            | MInsn::PutS { .. }
+    )
+}
+
+/// Whether the instruction returns, or calls a static method: one with code, or write, read or print.
+fn is_static_call(insn: MInsn) -> bool
+    ensures { result ≡ is_static_call_of insn }
+{
+    match insn {
+        MInsn::Ret { .. } => true,
+        MInsn::CallS { method } => FIRST_OWN <= method || 1 <= method,
+        _ => false,
+    }
+}
 
 /// Whether the machine runs the instruction.
 fn is_built(insn: MInsn) -> bool
     ensures { result ≡ is_built_of insn }
 {
-    match insn {
-        MInsn::Const2 { .. } | MInsn::Small2 { .. } | MInsn::Mid2 { .. } => true,
-        MInsn::Load { kind, .. } | MInsn::Store { kind, .. } => matches!(kind, Kind::Two),
-        MInsn::Pop { .. } | MInsn::Sx | MInsn::Zx | MInsn::Sb | MInsn::Goto { .. } => true,
-        MInsn::Inc { width, .. }
-        | MInsn::Bin { width, .. }
-        | MInsn::Neg { width }
-        | MInsn::Jz { width, .. }
-        | MInsn::JCmp { width, .. }
-        | MInsn::Switch { width, .. }
-        | MInsn::Table { width, .. } => matches!(width, Width::Two),
-        MInsn::Ret { result } => result.is_none(),
-        MInsn::CallS { method } => 1 <= method && method <= 3,
-        _ => false,
-    }
+    is_plain(insn) || is_static_call(insn)
 }
 
 /// The offset of the first instruction that the machine does not run.

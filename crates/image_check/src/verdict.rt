@@ -175,7 +175,6 @@ pub fn check(alloc: Global, image: Image) -> Result<Checked, (Image, CheckRefusa
 impl Checked {
     ghost use Rattle.std.specs.Prelude.{◌<◌};
     ghost use Rattle.image_form.specs.Library.{name_of};
-    ghost use Rattle.image_check.specs.Names.{HasType};
 
     /// The whole image.
     pub fn image(&self) -> &Image
@@ -198,9 +197,8 @@ impl Checked {
             .as_slice()
     }
 
-    /// The bytes of the name of a type of the library or of the image; those of an array type are none.
+    /// The bytes of the name of a class of the library or of the image; those of what is no class are none.
     pub fn name_of(&self, class: u16) -> &[u8]
-        requires { HasType self.now class }
         ensures { result.now ≡ name_of self.now class }
     {
         type_name(&self.image, class)

@@ -1,6 +1,6 @@
--- checked code goes on, and its runs end
-pub mod progress
--- what an instruction does to the cells, and the turn after it
-pub mod turns
--- what is said over a console
-pub mod dialogues
+-- checked images are sound
+pub mod SoundImages
+-- the body cells of the methods of an image
+pub mod Bodies
+-- the memory when main's frame is pushed
+pub mod Beginning

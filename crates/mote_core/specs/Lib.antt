@@ -1,6 +1,2 @@
-pub mod Ready
-pub mod Ran
-pub mod Good
-pub mod Turns
-pub mod Acts
-pub mod CellsInUse
+pub mod Kept
+pub mod Begun

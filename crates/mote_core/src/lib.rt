@@ -1,14 +1,10 @@
-//! The mote machine: a `Mote` runs a checked image, instruction by instruction from the infusion's own
-//! bytes, over memory that is taken when the mote is made. A run is the limited run of the split machine
-//! (`mote_model`), and takes no memory. The main call is `Mote::run`. This crate stands on `image_check`,
-//! `mote_model` and `host_face`.
+//! The mote machine: a `Mote` runs a checked image over memory that is taken when the mote is made. A run goes on from the
+//! state of the split machine that the mote stands for (`run_loop`), and takes no memory. The main call is `Mote::run`. What
+//! a mote is, what a new one stands for and what a run leaves of it is said in specs/Kept.antt. This crate stands on
+//! `run_loop`, `split_safety`, `mote_model`, `mote_stack` and `image_check`.
 #![tactic(auto)]
 
-mod act;
-mod cells;
-mod laws;
 mod mote;
-mod turn;
+mod start;
 
-pub use laws::checked_images_end;
 pub use mote::Mote;

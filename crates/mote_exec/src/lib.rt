@@ -1,8 +1,7 @@
 //! Plain steps of the mote machine over the memory of a mote, which place nothing and call nothing: constants, arithmetic,
 //! locals, operands, jumps, switches and statics. The main call is `step_plain`. What a step answers is said by the move of
-//! the split machine (`mote_model`, in specs/Turns.antt), and what is asked before it stands in specs/Steps.antt. The program
-//! does not use them yet. This crate stands on `mote_model`, `mote_stack`, `split_safety`, `image_check`, `image_instr` and
-//! `cell_num`.
+//! the split machine (`mote_model`, in specs/Turns.antt), and what is asked before it stands in specs/Steps.antt. This
+//! crate stands on `mote_model`, `mote_stack`, `split_safety`, `image_check`, `image_instr` and `cell_num`.
 #![tactic(auto)]
 
 mod constants;
