@@ -1,6 +1,5 @@
 -- Sets whose files are read: what the records say is what the files say.
 use Rattle.std.proofs.Common.{◌≡◌, ℕ, suc, List, [], ◌∷◌, ◌++◌, length, Option, Some, None, option_map, option_and_then, Result, refl, sym, ap, subst, ◌∙◌}
-use Rattle.std.specs.List.{AllByRecursion}
 use Rattle.std.specs.Option.{option_or}
 use Rattle.class_file.specs.declared.record.ClassFile.{ClassFile}
 use Rattle.class_file.specs.declared.refusal.ReadRefusal.{ReadRefusal}
@@ -9,9 +8,9 @@ use Rattle.class_file.specs.ReadingClass.{class_of}
 use Rattle.class_file.proofs.layout.Whole.{file_again}
 use Rattle.jvm_model.specs.declared.refusal.Refusal.{Refusal}
 use Rattle.jvm_model.specs.Phases.{first_refusal, unless_read, reading_refusal, record_in}
-use Rattle.jvm_model.specs.BuiltForm.{IfThere}
+use Rattle.jvm_model.specs.FirstOf.{IfThere}
 use Rattle.jvm_model.specs.ClosedSet.{records_of}
-use Rattle.infuse_link.specs.Sets.{AreRead, IsRecord}
+use Rattle.infuse_link.specs.Sets.{AreRead}
 
 -- one more file, and its record
 pub one_more : (files : List (List ℕ)) (classes : List ClassFile) (bytes : List ℕ) (class : ClassFile) → AreRead files classes → IsClassFile bytes class → AreRead (files ++ bytes ∷ []) (classes ++ class ∷ [])
@@ -23,13 +22,6 @@ one_more (first ∷ files) (other ∷ classes) bytes class all is = (all.0, one_
 -- a class file passes
 pub read_passes : (place : ℕ) (bytes : List ℕ) (class : ClassFile) → IsClassFile bytes class → reading_refusal place bytes ≡ None
 read_passes place bytes class is = ap (unless_read place (length bytes)) (file_again bytes class is)
-
--- each record is that of some bytes
-pub are_records : (files : List (List ℕ)) (classes : List ClassFile) → AreRead files classes → AllByRecursion IsRecord classes
-are_records [] [] all = tt
-are_records [] (class ∷ classes) all = absurd all
-are_records (bytes ∷ files) [] all = absurd all
-are_records (bytes ∷ files) (class ∷ classes) all = ((bytes, all.0), are_records files classes all.1)
 
 -- a scan of the records is one of the files
 pub scan_same : (test : ℕ → ClassFile → Option Refusal) (place : ℕ) (files : List (List ℕ)) (classes : List ClassFile) → AreRead files classes
@@ -52,7 +44,7 @@ none_unread place (bytes ∷ files) (class ∷ classes) all =
     ap (λ (r : Option Refusal). option_or r (first_refusal reading_refusal (suc place) files)) (read_passes place bytes class all.0) ∙ none_unread (suc place) files classes all.1
 
 -- the records of the files are these
-records_are : (files : List (List ℕ)) (classes : List ClassFile) → AreRead files classes → records_of files ≡ Some classes
+pub records_are : (files : List (List ℕ)) (classes : List ClassFile) → AreRead files classes → records_of files ≡ Some classes
 records_are [] [] all = refl
 records_are [] (class ∷ classes) all = absurd all
 records_are (bytes ∷ files) [] all = absurd all

@@ -5,7 +5,7 @@ use Rattle.class_file.specs.declared.record.ClassFile.{ClassFile}
 use Rattle.class_tree.specs.Tree.{Gathers}
 use Rattle.body_form.specs.declared.body.Body.{Body}
 use Rattle.jvm_model.specs.declared.refusal.Refusal.{Refusal}
-use Rattle.jvm_model.specs.BuiltForm.{FirstOf}
+use Rattle.jvm_model.specs.FirstOf.{FirstOf}
 use Rattle.jvm_model.specs.Bodies.{AreEach, Coded, IsBody, AreBodies, coded_methods}
 use Rattle.jvm_model.specs.TypesNames.{IsOfSet}
 use Rattle.jvm_model.specs.Verification.{BodyTypes, MethodTypes, HasBody, Typing, IsClosed}

@@ -1,7 +1,3 @@
 pub mod Infused
-pub mod RunsAlike
-pub mod NumberInsns
-pub mod Tests
-pub mod Offsets
-pub mod ClassImage
 pub mod Sets
+pub mod Stages

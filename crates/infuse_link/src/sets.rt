@@ -1,7 +1,9 @@
 //! The first tests of a set of class files: its size, the reading of each file, the code of each method,
 //! and whether its classes are a closed set.
 
-ghost use Rattle.std.specs.Prelude.{◌≡◌, ◌⊎◌, ◌<◌, ◌≤◌, Some, None, map, min, length, slice_get, IfOk, IfErr, OnOk};
+ghost use Rattle.std.specs.Prelude.{◌≡◌, ◌⊎◌, Some, None, map, min, IfOk, IfErr, OnOk};
+ghost use Rattle.std.specs.List.{AllByRecursion};
+ghost use Rattle.byte_read.specs.Bytes.{AreBytes};
 ghost use Rattle.jvm_model.specs.declared.refusal.Cause.TheVariants as cause;
 ghost use Rattle.jvm_model.specs.Phases.{saturated as saturated_of, first_refusal, total_bytes as total_bytes_of, too_many as too_many_of, size_refusal, refusal_of_file as refusal_of_file_of, refusal_of_reading as refusal_of_reading_of, reading_refusal, fault_of, refusal_of_insn as refusal_of_insn_of, refusal_of_code as refusal_of_code_of, method_refusal, class_refusal};
 ghost use Rattle.jvm_model.specs.ClosedSet.{refusal_of_class as refusal_of_class_of, refusal_of_declared as refusal_of_declared_of, refusal_of_tree as refusal_of_tree_of, ClosedClasses};
@@ -13,7 +15,6 @@ use class_code::{CodeRefusal, decode, handlers_fit};
 use class_file::{ClassFile, CodeAttr, Member, ReadRefusal, read_class};
 use class_tree::{ClassSet, TreeRefusal, gather};
 use jvm_model::{Cause, Refusal};
-use library::FIRST_OWN;
 use std::alloc::Global;
 
 /// The most files of a set.
@@ -23,7 +24,7 @@ const MOST_FILES: usize = 512;
 const MOST_BYTES: usize = 16_777_216;
 
 /// The number in the four bytes of its field, or the greatest one.
-pub(crate) fn saturated(number: usize) -> u32
+fn saturated(number: usize) -> u32
     ensures { result ≡ saturated_of number }
 {
     u32::try_from(number).unwrap_or(u32::MAX)
@@ -117,6 +118,7 @@ fn of_reading(
 /// Reads a file, which is told its place.
 fn read_file(alloc: Global, file: usize, bytes: &[u8]) -> Result<ClassFile, Refusal>
     ensures read { IfOk result (IsClassFile bytes.now) }
+    ensures bytes { OnOk result (AreBytes bytes.now) }
     ensures refused { IfErr result (λ why. (why.cause ≡ cause.Memory) ⊎ (reading_refusal file bytes.now ≡ Some why)) }
 {
     of_reading(file, bytes.len(), read_class(alloc, bytes))
@@ -125,6 +127,7 @@ fn read_file(alloc: Global, file: usize, bytes: &[u8]) -> Result<ClassFile, Refu
 /// Reads each file.
 pub(crate) fn read_files(alloc: Global, files: &[Vec<u8>]) -> Result<Vec<ClassFile>, Refusal>
     ensures read { IfOk result (λ classes. AreRead (map (λ v. v.items) files.now) classes.items) }
+    ensures bytes { OnOk result (AllByRecursion AreBytes (map (λ v. v.items) files.now)) }
     ensures refused { IfErr result (λ why. (why.cause ≡ cause.Memory) ⊎ (first_refusal reading_refusal 0 (map (λ v. v.items) files.now) ≡ Some why)) }
 {
     let mut classes = Vec::new(alloc);
@@ -298,13 +301,4 @@ pub(crate) fn closed_set(alloc: Global, classes: Vec<ClassFile>) -> Result<Class
         Ok(set) => Ok(set),
         Err(why) => Err(refusal_of_tree(why)),
     }
-}
-
-/// The record of the file at this place of a set.
-pub(crate) fn file_at(set: &ClassSet, place: usize) -> &ClassFile
-    requires few { length set.now ≤ 512 }
-    requires within { place < length set.now }
-    ensures { slice_get set.now place ≡ Some result.now }
-{
-    set.file(FIRST_OWN + place as u16)
 }

@@ -1,15 +1,12 @@
-//! Motes that run again, with a stack that is full or too small, and over a console that is full.
+//! New motes.
 
 ghost use Rattle.std.specs.Prelude.{IfOk};
 ghost use Rattle.image_form.specs.Grammar.{IsImage};
 
-use host_face::MemConsole;
 use image_check::{Checked, check};
 use image_form::{Image, read_image};
 use mote_core::Mote;
-use mote_model::Ending;
 use std::alloc::Global;
-use std::process::Abort;
 use std::test::*;
 
 /// An infusion up to the cells of main's locals: a class Hi, and one method.
@@ -33,53 +30,26 @@ fn image_of(alloc: Global, cell_locals: u16, body: u16, code: &[u8]) -> Result<I
 }
 
 /// A mote with this code, and 64 cells of stack.
-fn mote_of(alloc: Global, cell_locals: u16, body: u16, code: &[u8]) -> Result<Mote, Fail> {
-    let image = image_of(alloc, cell_locals, body, code)?;
+fn mote_of(alloc: Global, body: u16, code: &[u8]) -> Result<Mote, Fail> {
+    let image = image_of(alloc, 0, body, code)?;
     let checked: Checked = check(alloc, image).ok().ok_or("refused")?;
     Ok(Mote::new(alloc, checked, 64, 64).ok().ok_or("no memory")?)
 }
 
+/// SMALL2 72, CALLS write, SMALL2 105, CALLS write, RET
 const HI: &[u8] = &[0x04, 0x48, 0xb4, 0, 1, 0x04, 0x69, 0xb4, 0, 1, 0x79];
 
-/// SMALL2 3, STORE2 0; LOAD2 0, CALLS print, INC2 0 by -1, LOAD2 0, JZ2 ne to LOAD2; RET
-const DOWN: &[u8] = &[
-    0x04, 3, 0x0d, 0, 0x0b, 0, 0xb4, 0, 3, 0x0f, 0, 0xff, 0xff, 0x0b, 0, 0x59, 0, 4, 0x79,
-];
-
-/// A mote of this body and code ends so over a console of 12 bytes, having shown this.
-fn ends(
-    rt: &impl Abort,
-    alloc: Global,
-    body: u16,
-    code: &[u8],
-    ending: Ending,
-    shown: &[u8],
-) -> Result<(), Fail> {
-    let mut mote = mote_of(alloc, 0, body, code)?;
-    let mut console = MemConsole::new(alloc, b"", 12).ok().ok_or("no memory")?;
-    assert_eq!(rt; mote.run(&mut console, 9), ending, "{code:?}");
-    assert_eq!(rt; console.shown(), shown, "{code:?}");
-    Ok(())
-}
-
-/// A frame has four cells, and those of its body; the stack has 64.
+/// The stack has 64 cells: main's frame fills it, or exceeds it.
 #[test]
-fn a_frame_fits_the_stack_or_is_told(rt: HostRuntime) -> Result<(), Fail> {
-    ends(&rt, rt.alloc(), 60, HI, Ending::Done, b"Hi")?;
-    let wanted = Ending::StackWanted { need: 65, used: 0 };
-    ends(&rt, rt.alloc(), 61, HI, wanted, b"")
-}
-
-#[test]
-fn runs_again_from_the_start(rt: HostRuntime) -> Result<(), Fail> {
+fn a_new_mote_has_names_and_no_collection(rt: HostRuntime) -> Result<(), Fail> {
     let alloc = rt.alloc();
-    let mut mote = mote_of(alloc, 2, 4, DOWN)?;
-    let mut console = MemConsole::new(alloc, b"", 12).ok().ok_or("no memory")?;
-    assert_eq!(rt; mote.run(&mut console, 1), Ending::Spent);
-    assert_eq!(rt; mote.run(&mut console, 9), Ending::Done);
-    assert_eq!(rt; console.shown(), b"3321".as_slice());
+    let full = mote_of(alloc, 60, HI)?;
+    assert_eq!(rt; full.collections(), 0);
+    assert_eq!(rt; full.name_of(32), b"Hi".as_slice());
+    let exceeded = mote_of(alloc, 61, HI)?;
+    assert_eq!(rt; exceeded.collections(), 0);
     assert_eq!(rt;
-        mote.name_of(4),
+        exceeded.name_of(4),
         b"java/lang/ArithmeticException".as_slice()
     );
     Ok(())

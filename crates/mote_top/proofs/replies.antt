@@ -20,3 +20,7 @@ pub mod RunAnswers
 pub mod Sets
 -- what a store changes of what is kept
 pub mod Stores
+-- the names of types are small
+pub mod NameSizes
+-- what a run of a new mote answers
+pub mod NewMotes

@@ -7,9 +7,9 @@ use Rattle.image_form.specs.Library.{name_of}
 use Rattle.image_check.specs.declared.refusal.CheckCause.{CheckCause}
 use Rattle.image_check.specs.declared.refusal.CheckCause.TheVariants as check
 use Rattle.image_check.specs.declared.refusal.CheckRefusal.{CheckRefusal}
-use Rattle.jvm_model.specs.Machine as typed
 use Rattle.mote_model.specs.declared.ending.Ending.{Ending}
 use Rattle.mote_model.specs.declared.ending.Ending.TheVariants as split
+use Rattle.set_outcome.specs.SetOutcome as typed
 use Rattle.mote_top.specs.declared.status.ImageCause.{ImageCause}
 use Rattle.mote_top.specs.declared.status.ImageCause.TheVariants as image
 use Rattle.mote_top.specs.declared.status.ImageRefusal.{ImageRefusal}
@@ -17,7 +17,7 @@ use Rattle.mote_top.specs.declared.status.Status.{Status}
 use Rattle.mote_top.specs.declared.status.Status.TheVariants.{Done, Uncaught, Spent, HeapWanted, StackWanted, ConsoleFault, Misfit}
 
 -- the status of an ending on the typed machine
-abbrev pub typed_status : typed.Ending → Status
+abbrev pub typed_status : typed.SetEnding → Status
 typed_status typed.Done = Done
 typed_status (typed.Uncaught class) = Uncaught class
 typed_status typed.Spent = Spent

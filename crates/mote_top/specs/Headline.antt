@@ -13,12 +13,10 @@ use Rattle.host_face.specs.Talk.{with_bytes}
 use Rattle.image_form.specs.declared.record.Image.{Image}
 use Rattle.image_form.specs.Format.{encoding}
 use Rattle.mote_model.specs.declared.ending.Ending.{Ending}
-use Rattle.mote_model.specs.Machine.{LimitedSo}
-use Rattle.jvm_model.specs.Machine as typed
 use Rattle.jvm_model.specs.Phases.{saturated}
-use Rattle.jvm_model.specs.SetImage.{IsImageOf}
-use Rattle.jvm_model.specs.SetRun.{LimitedRun}
-use Rattle.jvm_model.specs.Verdict.{Accepted}
+use Rattle.set_verdict.specs.Verdict.{Accepted, IsImageOf}
+use Rattle.set_outcome.specs.ImageOutcome.{LimitedSo}
+use Rattle.set_outcome.specs.SetOutcome.{SetEnding, LimitedRun}
 use Rattle.mote_top.specs.declared.status.ImageRefusal.{ImageRefusal}
 use Rattle.mote_top.specs.declared.status.Status.{Status}
 use Rattle.mote_top.specs.declared.status.Status.TheVariants.{Done, Infusion, ConsoleFault, ShelfFault, Memory}
@@ -104,7 +102,7 @@ pub record Shows (call : Call) (after : After) (limits : Limits) (dialogue : Lis
 -- the limited run of the set on some answers to its gets is what is told
 pub record ShowsSome (call : Call) (after : After) (files : List (List ℕ)) (limits : Limits) : Type 0 where
   pub answers : gets.Answers
-  pub outcome : Outcome typed.Ending
+  pub outcome : Outcome SetEnding
   pub ends : LimitedRun files limits answers outcome
   pub shows : Shows call after limits outcome.dialogue None (typed_status outcome.ending)
 

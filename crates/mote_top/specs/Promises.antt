@@ -3,10 +3,9 @@ use Rattle.std.specs.Prelude.{◌≡◌, ℕ, ◌↔◌, ◌⊎◌, List, Some, 
 use Rattle.dialogue.specs.Answers.{answers_of, bytes_of}
 use Rattle.dialogue.specs.Limits.{Limits}
 use Rattle.dialogue.specs.Outcome.{Outcome}
-use Rattle.jvm_model.specs.Machine as typed
 use Rattle.jvm_model.specs.declared.refusal.Refusal.{Refusal}
-use Rattle.jvm_model.specs.SetRun.{LimitedRun}
-use Rattle.jvm_model.specs.Verdict.{Accepted, IsRefused}
+use Rattle.set_verdict.specs.Verdict.{Accepted, IsRefused}
+use Rattle.set_outcome.specs.SetOutcome.{SetEnding, LimitedRun}
 use Rattle.mote_top.specs.declared.status.Status.TheVariants.{Words, Refused}
 use Rattle.mote_top.specs.Words.{FaultsAt}
 use Rattle.mote_top.specs.Endings.{typed_status}
@@ -20,7 +19,7 @@ pub record Promises (call : Call) (after : After) : Type 0 where
   pub replied : IsReplied call after
   -- The headline: go of an accepted set, and run of its infusion, show, leave and answer what the limited
   -- run of the set on the typed machine does, unless the outside or memory fails.
-  pub headline : (files : List (List ℕ)) (limits : Limits) (input : List ℕ) (outcome : Outcome typed.Ending) → RunsSet call files limits → call.console.left ≡ Some input
+  pub headline : (files : List (List ℕ)) (limits : Limits) (input : List ℕ) (outcome : Outcome SetEnding) → RunsSet call files limits → call.console.left ≡ Some input
       → LimitedRun files limits (answers_of input) outcome → IsAnswer after.status → Shows call after limits outcome.dialogue (Some (bytes_of outcome.left)) (typed_status outcome.ending)
   -- Where the console does not tell its input, each get may give any byte or the end: they show and answer
   -- what a limited run of the set on some such answers does.

@@ -15,16 +15,14 @@ use Rattle.image_form.specs.Refused as form
 use Rattle.image_check.specs.declared.refusal.CheckRefusal.{CheckRefusal}
 use Rattle.image_check.specs.Checked.{IsChecked, IsBuilt}
 use Rattle.image_check.specs.Refused as check
-use Rattle.jvm_model.specs.Machine as typed
 use Rattle.jvm_model.specs.declared.refusal.Refusal.{Refusal}
 use Rattle.mote_model.specs.declared.ending.Ending.{Ending}
-use Rattle.mote_model.specs.Machine.{LimitedSo}
-use Rattle.jvm_model.specs.SetRun.{LimitedRun}
 use Rattle.jvm_model.specs.Phases.{saturated}
-use Rattle.jvm_model.specs.SetImage.{IsImageOf}
-use Rattle.jvm_model.specs.Verdict.{Accepted, IsRefused}
+use Rattle.set_verdict.specs.Verdict.{Accepted, IsImageOf, IsRefused}
+use Rattle.set_outcome.specs.ImageOutcome.{LimitedSo}
+use Rattle.set_outcome.specs.SetOutcome.{SetEnding, LimitedRun}
 use Rattle.mote_top.specs.declared.status.Status.{Status}
-use Rattle.mote_top.specs.declared.status.Status.TheVariants.{Done, Uncaught, Words, Refused, Infusion, Spent, StackWanted, ShelfFault}
+use Rattle.mote_top.specs.declared.status.Status.TheVariants.{Done, Uncaught, Words, Refused, Infusion, Spent, HeapWanted, StackWanted, Misfit, ShelfFault}
 use Rattle.mote_top.specs.declared.status.ImageRefusal.{ImageRefusal}
 use Rattle.mote_top.specs.Words.{IsName, AreNames, Setting, AreOptions, infuse_of, run_of, go_of, class_place, limits_of, FaultsAt}
 use Rattle.mote_top.specs.Status.{note_of}
@@ -48,12 +46,14 @@ dialogue_of reply = reply.dialogue
 abbrev pub all_said : Limits → Reply → List Item
 all_said limits reply = reply.dialogue ++ noting (note_of limits reply.status)
 
--- how a run ends so far: no object is made yet
+-- how a run ends
 abbrev pub IsRunEnd : Status → Type 0
 IsRunEnd Done = Unit {0}
 IsRunEnd (Uncaught class) = Unit {0}
 IsRunEnd Spent = Unit {0}
+IsRunEnd (HeapWanted need live) = Unit {0}
 IsRunEnd (StackWanted need used) = Unit {0}
+IsRunEnd (Misfit class place) = Unit {0}
 IsRunEnd _ = ⊥
 
 -- these bytes are kept at the name, where the shelf tells what it keeps
@@ -80,7 +80,7 @@ left_of left answers = option_map (λ _. bytes_of answers) left
 
 -- the limited run of the set on these answers ends so
 pub record EndsAs (files : List (List ℕ)) (limits : Limits) (left : Option (List ℕ)) (answers : Answers) (reply : Reply) : Type 0 where
-  pub outcome : Outcome typed.Ending
+  pub outcome : Outcome SetEnding
   pub ends : LimitedRun files limits answers outcome
   pub is : reply ≡ record { status = typed_status outcome.ending; dialogue = outcome.dialogue; left = left_of left outcome.left }
 

@@ -4,7 +4,7 @@ use Rattle.std.specs.FinMap.{insert}
 use Rattle.host_face.specs.Faults.{Rose}
 use Rattle.host_face.specs.Shelf.{Files, ChangesOnly}
 use Rattle.jvm_model.specs.Phases.{saturated}
-use Rattle.jvm_model.specs.Verdict.{IsRefused}
+use Rattle.set_verdict.specs.Verdict.{IsRefused}
 use Rattle.mote_top.specs.declared.status.Status.{Status}
 use Rattle.mote_top.specs.declared.status.Status.TheVariants.{Done, Refused, ShelfFault, Memory}
 

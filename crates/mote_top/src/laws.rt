@@ -1,7 +1,7 @@
 ghost use Rattle.std.specs.Prelude.{◌≡◌, ◌≢◌, ℕ, List};
 ghost use Rattle.image_form.specs.declared.record.Image.{Image};
 ghost use Rattle.jvm_model.specs.declared.refusal.Refusal.{Refusal};
-ghost use Rattle.jvm_model.specs.Verdict.{IsRefused};
+ghost use Rattle.set_verdict.specs.Verdict.{IsRefused};
 ghost use Rattle.mote_top.specs.declared.status.ImageRefusal.{ImageRefusal};
 ghost use Rattle.mote_top.specs.declared.status.Status.TheVariants.{Memory as NoMemory};
 ghost use Rattle.mote_top.specs.Words.{IsName, Setting, AreOptions, run_of, limits_of};

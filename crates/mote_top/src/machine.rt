@@ -1,11 +1,10 @@
 //! Runs class files and infusions on the mote machine.
 
 ghost use Rattle.std.specs.Prelude.{◌≡◌, ◌≤◌, [], map, vec_capacity, length};
-ghost use Rattle.image_form.specs.SmallForm.{IsSmall};
+ghost use Rattle.image_form.specs.Grammar.{IsImage};
 ghost use Rattle.jvm_model.specs.declared.refusal.Cause.TheVariants.{Memory as NoMemory};
 ghost use Rattle.image_form.specs.declared.refusal.FormRefusal.TheVariants.{Memory as NoFormMemory};
 ghost use Rattle.image_check.specs.declared.refusal.CheckCause.TheVariants.{Memory as NoCheckMemory};
-ghost use Rattle.mote_core.specs.Ran.{IsEndingSoFar};
 ghost use Rattle.mote_top.specs.Endings.{split_status, form_refusal as form_refusal_of, check_cause as check_cause_of, check_refusal as check_refusal_of};
 ghost use Rattle.mote_top.specs.Words.{HasSizes, limits_in};
 ghost use Rattle.mote_top.specs.Call.{spoken};
@@ -22,6 +21,7 @@ use item_list::Items;
 use jvm_model::{Cause, Refusal};
 use mote_core::Mote;
 use mote_model::Ending;
+use set_outcome::accepted_sets_run;
 use std::alloc::Global;
 
 /// No name of a class has more bytes.
@@ -39,6 +39,7 @@ pub(crate) fn run_classes<C: Console>(
     ensures { Answers dialogue_of (SetReplies (map (λ v. v.items) files.now) (limits_in opts) (C.left console.old))
         (spoken C.left C.shown C.noted C.faults C.room console.old) (spoken C.left C.shown C.noted C.faults C.room console.new) result }
 {
+    accepted_sets_run();
     let image = match infuse(alloc, files) {
         Ok(image) => image,
         Err(refusal) => return refused(refusal),
@@ -124,7 +125,7 @@ fn run_checked<C: Console>(alloc: Global, checked: Checked, opts: Opts, console:
 
 /// The status of an ending; a class's name is kept in the room.
 fn status_of(mote: &Mote, room: Vec<u8>, ending: Ending) -> Status
-    requires so_far { IsEndingSoFar ending }
+    requires image { IsImage mote.now.image }
     requires room { 65535 ≤ vec_capacity room }
     requires empty { room.items ≡ [] }
     ensures { result ≡ split_status mote.now.image ending }

@@ -6,6 +6,7 @@ ghost use Rattle.mote_top.specs.Promises.{Promises};
 use crate::status::Status;
 use crate::top::replied;
 use host_face::{Console, Shelf};
+use set_outcome::accepted_sets_run;
 use std::alloc::Global;
 
 /// Does all that the program does: reads the words, which exclude the program's name, does what the
@@ -28,5 +29,6 @@ pub fn mote<S: Shelf, C: Console>(
         (call (map string_bytes words.now) (shelved S.kept S.load_faults S.store_faults shelf.old) (spoken C.left C.shown C.noted C.faults C.room console.old))
         (after (shelved S.kept S.load_faults S.store_faults shelf.new) (spoken C.left C.shown C.noted C.faults C.room console.new) result) }
 {
+    accepted_sets_run();
     replied(alloc, words, shelf, console)
 }

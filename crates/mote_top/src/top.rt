@@ -16,6 +16,7 @@ use crate::words::{Command, DEFAULT_OPTS, Opts, place_of, read_words};
 use host_face::{Console, ConsoleFailed, Shelf, ShelfFail};
 use image_form::write_image;
 use infuse_link::infuse;
+use set_outcome::accepted_sets_run;
 use std::alloc::Global;
 
 /// The status, once its line is noted.
@@ -229,6 +230,7 @@ fn infusion_of(alloc: Global, files: &[Vec<u8>]) -> Result<Vec<u8>, Status>
     ensures ok { IfOk result (λ infusion. IsInfusionOf (map (λ v. v.items) files.now) infusion.items) }
     ensures err { IfErr result (IsRefusedStatus (map (λ v. v.items) files.now)) }
 {
+    accepted_sets_run();
     let image = match infuse(alloc, files) {
         Ok(image) => image,
         Err(refusal) => return Err(refused(refusal)),

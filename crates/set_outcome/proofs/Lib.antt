@@ -4,6 +4,8 @@ pub mod ThrownClasses
 pub mod ThrownNames
 -- runs have one outcome
 pub mod OneOutcome
+-- the image of an accepted set keeps the rules of the check
+pub mod KeptRules
 -- the run of an accepted set and that of its image show the same
 pub mod AlikeOutcomes
 -- the run within limits is cut from the run without them

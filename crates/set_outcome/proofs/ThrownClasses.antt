@@ -22,7 +22,7 @@ use Rattle.body_form.specs.declared.op.MethodUse.{MethodUse}
 use Rattle.body_form.specs.declared.op.Op.{Op}
 use Rattle.body_form.specs.declared.op.Op.TheVariants as op
 use Rattle.body_form.specs.declared.op.UnaryOp.{UnaryOp}
-use Rattle.jvm_model.specs.Machine.{restacked, row_target}
+use Rattle.jvm_model.specs.Operands.{restacked, row_target}
 use Rattle.jvm_model.specs.State.{Value, Whole, Null, Name}
 use Rattle.typed_machine.specs.TypedCalls.{argument_count, arguments_of, call_static, kept_as, resumes, return_value, returns, runs_code, runs_native}
 use Rattle.typed_machine.specs.TypedMoves.{Ending, Done, TypedMove, Uncaught, after_search, branches, caught, does_next}

@@ -3,21 +3,30 @@ ghost use Rattle.dialogue.specs.Answers.{Answers};
 ghost use Rattle.dialogue.specs.Limits.{Limits};
 ghost use Rattle.dialogue.specs.Outcome.{Outcome};
 ghost use Rattle.image_form.specs.declared.record.Image.{Image};
+ghost use Rattle.image_form.specs.Grammar.{IsImage};
+ghost use Rattle.image_check.specs.Checked.{IsBuilt, IsChecked};
 ghost use Rattle.mote_model.specs.declared.ending.Ending.{Ending};
 ghost use Rattle.set_verdict.specs.Verdict.{Accepted, IsImageOf};
 ghost use Rattle.set_outcome.specs.ImageOutcome.{LimitedSo};
 ghost use Rattle.set_outcome.specs.RunsAlike.{RunsAlike, is_want, IsPrefix};
 ghost use Rattle.set_outcome.specs.SetOutcome.{SetEnding, Run, LimitedRun};
 
+use image_rules::set_images_keep_rules;
+use set_grammar::set_images_are_images;
 use set_runs::sets_run_alike;
 use set_verdict::one_linked;
 
-/// For all limits and inputs the limited run of the image of an accepted set, on the split machine, is that of the set on
-/// the typed machine.
-pub fn sets_show_alike()
-    ensures { (files : List (List ℕ)) (image : Image) → IsImageOf files image → (limits : Limits) (answers : Answers) → RunsAlike files image limits answers }
+/// The image of an accepted set of files of bytes is of the grammar, keeps the rules of the check, and is run; and for all
+/// limits and inputs its limited run on the split machine is that of the set on the typed machine.
+pub fn accepted_sets_run()
+    ensures image { (files : List (List ℕ)) (image : Image) → IsImageOf files image → IsImage image }
+    ensures checked { (files : List (List ℕ)) (image : Image) → IsImageOf files image → IsChecked image }
+    ensures built { (files : List (List ℕ)) (image : Image) → IsImageOf files image → IsBuilt image }
+    ensures runs_alike { (files : List (List ℕ)) (image : Image) → IsImageOf files image → (limits : Limits) (answers : Answers) → RunsAlike files image limits answers }
 {
     one_linked();
+    set_images_are_images();
+    set_images_keep_rules();
     sets_run_alike();
 }
 

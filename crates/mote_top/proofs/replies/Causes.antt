@@ -5,7 +5,7 @@ use Rattle.std.specs.FinMap.{get}
 use Rattle.dialogue.specs.Limits.{Limits}
 use Rattle.host_face.specs.Shelf.{Files}
 use Rattle.mote_top.specs.declared.status.Status.{Status}
-use Rattle.mote_top.specs.declared.status.Status.TheVariants.{Done, Uncaught, Words, Spent, StackWanted, ShelfFault}
+use Rattle.mote_top.specs.declared.status.Status.TheVariants.{Done, Uncaught, Words, Spent, HeapWanted, StackWanted, Misfit, ShelfFault}
 use Rattle.jvm_model.specs.Phases.{saturated}
 use Rattle.mote_top.specs.declared.words.Command.{Command}
 use Rattle.mote_top.specs.declared.words.Command.TheVariants as commands
@@ -39,7 +39,9 @@ run_end : (status : Status) → IsRunEnd status → IsOfCommand status
 run_end Done end = tt
 run_end (Uncaught class) end = tt
 run_end Spent end = tt
+run_end (HeapWanted need live) end = tt
 run_end (StackWanted need used) end = tt
+run_end (Misfit class place) end = tt
 run_end _ end = absurd end
 
 set_status : (files : List (List ℕ)) (limits : Limits) (left : Option (List ℕ)) (reply : Reply) → SetReplies files limits left reply → IsOfCommand reply.status

@@ -12,14 +12,15 @@ use Rattle.host_face.specs.Console.{FillsRoom}
 use Rattle.host_face.specs.Talk.{with_bytes, WasFull}
 use Rattle.image_form.specs.declared.record.Image.{Image}
 use Rattle.image_form.specs.Format.{encoding}
+use Rattle.image_form.specs.Grammar.{IsImage}
+use Rattle.image_check.specs.Checked.{IsBuilt, IsChecked}
 use Rattle.image_form.proofs.format.Whole.{one_image}
 use Rattle.jvm_model.specs.declared.refusal.Refusal.{Refusal}
-use Rattle.jvm_model.specs.Machine as typed
-use Rattle.set_laws.proofs.SetRuns.{limited_run_is_one}
-use Rattle.infuse_link.proofs.AcceptedSets.{set_image, set_checked, set_built}
-use Rattle.jvm_model.specs.SetRun.{LimitedRun}
-use Rattle.jvm_model.specs.SetImage.{IsImageOf}
-use Rattle.jvm_model.specs.Verdict.{Accepted, IsRefused}
+use Rattle.set_verdict.specs.Verdict.{Accepted, IsImageOf, IsRefused}
+use Rattle.set_outcome.specs.SetOutcome.{SetEnding, LimitedRun}
+use Rattle.set_outcome.specs.ImageOutcome.{bounds_of}
+use Rattle.set_outcome.proofs.OneOutcome.{run_is_one}
+use Rattle.set_verdict.proofs.OneLinked.{one_linked}
 use Rattle.mote_top.specs.declared.status.Status.{Status}
 use Rattle.mote_top.specs.declared.status.Status.TheVariants.{Done, Words, Refused, ConsoleFault, ShelfFault, Memory}
 use Rattle.mote_top.specs.Words.{FaultsAt}
@@ -33,7 +34,7 @@ use Rattle.mote_top.specs.Promises.{Promises}
 use Rattle.mote_top.proofs.replies.Answering.{whole_of}
 use Rattle.mote_top.proofs.replies.Causes.{status_is, may_words, fault_reply, may_shelf, go_on, run_on, infuse_on}
 use Rattle.mote_top.proofs.replies.SetLaws.{accepted_or_refused, one_refusal}
-use Rattle.mote_top.proofs.replies.Sets.{image_ends, infusion_is_one}
+use Rattle.mote_top.proofs.replies.Sets.{SetsRunAlike, image_ends, infusion_is_one}
 
 same_refusal : (a b : Refusal) → Refused a ≡ Refused b → a ≡ b
 same_refusal a b e = cc
@@ -60,7 +61,14 @@ room_of Get (Some n) output others full = absurd cc
 room_of (Put byte) told output others full = inl full
 room_of (Note byte) told output others full = inr full
 
-module _ (call : Call) (after : After) (limits : Limits) where
+-- the image of each accepted set is an infusion, which runs as the set
+pub record SetsAreInfused : Type 0 where
+  pub image : (files : List (List ℕ)) (image : Image) → IsImageOf files image → IsImage image
+  pub checked : (files : List (List ℕ)) (image : Image) → IsImageOf files image → IsChecked image
+  pub built : (files : List (List ℕ)) (image : Image) → IsImageOf files image → IsBuilt image
+  pub alike : SetsRunAlike
+
+module _ (sets : SetsAreInfused) (call : Call) (after : After) (limits : Limits) where
   abbrev May : Reply → Type 0
   May reply = MayReply call after.shelf limits reply
 
@@ -91,16 +99,16 @@ module _ (call : Call) (after : After) (limits : Limits) where
       shows_all dialogue rest status (r.same ∙ status_is is) (subst (Talked call.console after.console) (ap (all_said limits) is) r.talked) (r.same_left ∙ ap (λ (reply : Reply). reply.left) is)
 
   -- where the input is told, the limited run that a reply tells is the one that is given
-  ends_shown : (r : IsSaid after.status) (files : List (List ℕ)) (input : List ℕ) (outcome : Outcome typed.Ending) → call.console.left ≡ Some input → LimitedRun files limits (answers_of input) outcome
+  ends_shown : (r : IsSaid after.status) (files : List (List ℕ)) (input : List ℕ) (outcome : Outcome SetEnding) → call.console.left ≡ Some input → LimitedRun files limits (answers_of input) outcome
       → (answers : gets.Answers) → MayGive call.console.left answers → EndsAs files limits call.console.left answers r.reply → Shows call after limits outcome.dialogue (Some (bytes_of outcome.left)) (typed_status outcome.ending)
   ends_shown r files input outcome tells run answers may ends =
       let told : answers ≡ answers_of input = subst (λ (l : Option (List ℕ)). MayGive l answers) tells may in
-      let one : ends.outcome ≡ outcome = limited_run_is_one files limits (answers_of input) ends.outcome outcome (subst (λ (a : gets.Answers). LimitedRun files limits a ends.outcome) told ends.ends) run in
+      let one : ends.outcome ≡ outcome = run_is_one one_linked files (bounds_of limits) (answers_of input) ends.outcome outcome (subst (λ (a : gets.Answers). LimitedRun files limits a ends.outcome) told ends.ends) run in
       let here = reply_shows r (typed_status ends.outcome.ending) ends.outcome.dialogue (left_of call.console.left ends.outcome.left) ends.is in
       let left_told = subst (λ (l : Option (List ℕ)). Shows call after limits ends.outcome.dialogue (left_of l ends.outcome.left) (typed_status ends.outcome.ending)) tells here in
-      subst (λ (o : Outcome typed.Ending). Shows call after limits o.dialogue (Some (bytes_of o.left)) (typed_status o.ending)) one left_told
+      subst (λ (o : Outcome SetEnding). Shows call after limits o.dialogue (Some (bytes_of o.left)) (typed_status o.ending)) one left_told
 
-  set_shown : (r : IsSaid after.status) (files : List (List ℕ)) (input : List ℕ) (outcome : Outcome typed.Ending) → call.console.left ≡ Some input → LimitedRun files limits (answers_of input) outcome → SetReplies files limits call.console.left r.reply
+  set_shown : (r : IsSaid after.status) (files : List (List ℕ)) (input : List ℕ) (outcome : Outcome SetEnding) → call.console.left ≡ Some input → LimitedRun files limits (answers_of input) outcome → SetReplies files limits call.console.left r.reply
       → Shows call after limits outcome.dialogue (Some (bytes_of outcome.left)) (typed_status outcome.ending)
   set_shown r files input outcome tells run (inl runs) = ends_shown r files input outcome tells run runs.answers runs.may runs.ends
   set_shown r files input outcome tells run (inr refuses) = absurd (accepted_or_refused files refuses.refusal run.accepted refuses.refused)
@@ -122,15 +130,15 @@ module _ (call : Call) (after : After) (limits : Limits) where
 
   -- the infusion of an accepted set is one
   own_infusion : (files : List (List ℕ)) (image : Image) → IsImageOf files image → IsInfusion (encoding image) image
-  own_infusion files image is = record { encoded = (set_image files image is, refl); checked = set_checked files image is; built = set_built files image is }
+  own_infusion files image is = record { encoded = (sets.image files image is, refl); checked = sets.checked files image is; built = sets.built files image is }
 
   -- what ran is the image of the set
   infusion_ends : (r : IsSaid after.status) (files : List (List ℕ)) (image : Image) → IsImageOf files image → (runs : RunsInfusion (encoding image) limits call.console.left r.reply) → EndsAs files limits call.console.left runs.runs.answers r.reply
   infusion_ends r files image is runs =
       let same : runs.image ≡ image = one_image (encoding image) runs.image image runs.infusion.encoded (own_infusion files image is).encoded in
-      image_ends files image is limits call.console.left runs.runs.answers r.reply (subst (λ (i : Image). ImageEndsAs i limits call.console.left runs.runs.answers r.reply) same runs.runs.ends)
+      image_ends sets.alike files image is limits call.console.left runs.runs.answers r.reply (subst (λ (i : Image). ImageEndsAs i limits call.console.left runs.runs.answers r.reply) same runs.runs.ends)
 
-  infusion_shown : (r : IsSaid after.status) (files : List (List ℕ)) (input : List ℕ) (outcome : Outcome typed.Ending) (image : Image) → IsImageOf files image → call.console.left ≡ Some input → LimitedRun files limits (answers_of input) outcome → InfusionReplies (encoding image) limits call.console.left r.reply
+  infusion_shown : (r : IsSaid after.status) (files : List (List ℕ)) (input : List ℕ) (outcome : Outcome SetEnding) (image : Image) → IsImageOf files image → call.console.left ≡ Some input → LimitedRun files limits (answers_of input) outcome → InfusionReplies (encoding image) limits call.console.left r.reply
       → Shows call after limits outcome.dialogue (Some (bytes_of outcome.left)) (typed_status outcome.ending)
   infusion_shown r files input outcome image is tells run (inl runs) = ends_shown r files input outcome tells run runs.runs.answers runs.runs.may (infusion_ends r files image is runs)
   infusion_shown r files input outcome image is tells run (inr none) = absurd (infusion_is_one (encoding image) image (own_infusion files image is) none.refusal none.none)
@@ -204,54 +212,54 @@ module _ (call : Call) (after : After) (limits : Limits) where
 
 -- ---- the promises
 
-module _ (call : Call) (after : After) (replied : IsReplied call after) where
+module _ (sets : SetsAreInfused) (call : Call) (after : After) (replied : IsReplied call after) where
   abbrev answer_said : IsAnswer after.status → Replied (all_said replied.limits) (MayReply call after.shelf replied.limits) call.console after.console after.status
-  answer_said answer = said call after replied.limits answer replied.answers
+  answer_said answer = said sets call after replied.limits answer replied.answers
 
   reply_answer : (answer : IsAnswer after.status) → IsAnswer (answer_said answer).reply.status
   reply_answer answer = subst IsAnswer (answer_said answer).same answer
 
-  headline : (files : List (List ℕ)) (limits : Limits) (input : List ℕ) (outcome : Outcome typed.Ending) → RunsSet call files limits → call.console.left ≡ Some input
+  headline : (files : List (List ℕ)) (limits : Limits) (input : List ℕ) (outcome : Outcome SetEnding) → RunsSet call files limits → call.console.left ≡ Some input
       → LimitedRun files limits (answers_of input) outcome → IsAnswer after.status → Shows call after limits outcome.dialogue (Some (bytes_of outcome.left)) (typed_status outcome.ending)
   headline files limits input outcome (inl goes) tells run answer =
       let r = answer_said answer in
       let on = go_on call after.shelf replied.limits r.reply files limits goes (reply_answer answer) r.may in
       let here : LimitedRun files replied.limits (answers_of input) outcome = subst (λ (l : Limits). LimitedRun files l (answers_of input) outcome) (sym on.0) run in
-      subst (λ (l : Limits). Shows call after l outcome.dialogue (Some (bytes_of outcome.left)) (typed_status outcome.ending)) on.0 (set_shown call after replied.limits r files input outcome tells here on.1)
+      subst (λ (l : Limits). Shows call after l outcome.dialogue (Some (bytes_of outcome.left)) (typed_status outcome.ending)) on.0 (set_shown sets call after replied.limits r files input outcome tells here on.1)
   headline files limits input outcome (inr given) tells run answer =
       let r = answer_said answer in
       let on = run_on call after.shelf replied.limits r.reply (encoding given.image) limits given.runs (reply_answer answer) r.may in
       let here : LimitedRun files replied.limits (answers_of input) outcome = subst (λ (l : Limits). LimitedRun files l (answers_of input) outcome) (sym on.0) run in
-      subst (λ (l : Limits). Shows call after l outcome.dialogue (Some (bytes_of outcome.left)) (typed_status outcome.ending)) on.0 (infusion_shown call after replied.limits r files input outcome given.image given.is_image tells here on.1)
+      subst (λ (l : Limits). Shows call after l outcome.dialogue (Some (bytes_of outcome.left)) (typed_status outcome.ending)) on.0 (infusion_shown sets call after replied.limits r files input outcome given.image given.is_image tells here on.1)
 
   untold : (files : List (List ℕ)) (limits : Limits) → RunsSet call files limits → call.console.left ≡ None → Accepted files → IsAnswer after.status → ShowsSome call after files limits
   untold files limits (inl goes) none accepted answer =
       let r = answer_said answer in
       let on = go_on call after.shelf replied.limits r.reply files limits goes (reply_answer answer) r.may in
-      subst (λ (l : Limits). ShowsSome call after files l) on.0 (set_some call after replied.limits r files none accepted on.1)
+      subst (λ (l : Limits). ShowsSome call after files l) on.0 (set_some sets call after replied.limits r files none accepted on.1)
   untold files limits (inr given) none accepted answer =
       let r = answer_said answer in
       let on = run_on call after.shelf replied.limits r.reply (encoding given.image) limits given.runs (reply_answer answer) r.may in
-      subst (λ (l : Limits). ShowsSome call after files l) on.0 (infusion_some call after replied.limits r files given.image given.is_image none on.1)
+      subst (λ (l : Limits). ShowsSome call after files l) on.0 (infusion_some sets call after replied.limits r files given.image given.is_image none on.1)
 
   refused : (files : List (List ℕ)) (refusal : Refusal) → LoadsSet call files → IsAnswer after.status → (after.status ≡ Refused refusal) ↔ IsRefused files refusal
   refused files refusal (inl (limits, goes)) answer =
       let r = answer_said answer in
-      set_refused call after replied.limits r files refusal (go_on call after.shelf replied.limits r.reply files limits goes (reply_answer answer) r.may).1
+      set_refused sets call after replied.limits r files refusal (go_on call after.shelf replied.limits r.reply files limits goes (reply_answer answer) r.may).1
   refused files refusal (inr (out, infuses)) answer =
       let r = answer_said answer in
-      store_refused call after replied.limits r files out refusal (infuse_on call after.shelf replied.limits r.reply files out infuses (reply_answer answer) r.may)
+      store_refused sets call after replied.limits r files out refusal (infuse_on call after.shelf replied.limits r.reply files out infuses (reply_answer answer) r.may)
 
   stored : (files : List (List ℕ)) (out : List ℕ) → InfusesTo call files out → IsAnswer after.status → Accepted files ↔ StoresInfusion call after files out
   stored files out infuses answer =
       let r = answer_said answer in
-      stored_as call after replied.limits r files out infuses (infuse_on call after.shelf replied.limits r.reply files out infuses (reply_answer answer) r.may)
+      stored_as sets call after replied.limits r files out infuses (infuse_on call after.shelf replied.limits r.reply files out infuses (reply_answer answer) r.may)
 
   infusion : (bytes : List ℕ) (limits : Limits) → RunsOn call bytes limits → IsAnswer after.status → SaysNoInfusion bytes after.status ⊎ RanInfusion call after bytes limits
   infusion bytes limits runs answer =
       let r = answer_said answer in
       let on = run_on call after.shelf replied.limits r.reply bytes limits runs (reply_answer answer) r.may in
-      subst (λ (l : Limits). SaysNoInfusion bytes after.status ⊎ RanInfusion call after bytes l) on.0 (infusion_as call after replied.limits r bytes on.1)
+      subst (λ (l : Limits). SaysNoInfusion bytes after.status ⊎ RanInfusion call after bytes l) on.0 (infusion_as sets call after replied.limits r bytes on.1)
 
   words : (place : ℕ) → extent after.status ≡ Whole → (after.status ≡ Words place) ↔ FaultsAt call.words place
   words place whole =
@@ -271,6 +279,6 @@ module _ (call : Call) (after : After) (replied : IsReplied call after) where
         stored = stored;
         infusion = infusion;
         words = words;
-        faults = cause_of call after replied.limits after.status replied.answers;
+        faults = cause_of sets call after replied.limits after.status replied.answers;
         stays = record { shelf = shelf; faults = console.0; room = console.1 };
       }

@@ -4,7 +4,7 @@ use Rattle.std.specs.FinMap.{insert}
 use Rattle.host_face.specs.Shelf.{Files}
 use Rattle.image_form.specs.Format.{encoding}
 use Rattle.jvm_model.specs.declared.refusal.Refusal.{Refusal}
-use Rattle.jvm_model.specs.Verdict.{IsRefused}
+use Rattle.set_verdict.specs.Verdict.{IsRefused}
 use Rattle.mote_top.specs.declared.status.Status.{Status}
 use Rattle.mote_top.specs.declared.status.Status.TheVariants.{ConsoleFault, ShelfFault, Memory}
 use Rattle.mote_top.specs.Words.{IsName, Setting, AreOptions, run_of, limits_of}

@@ -1,8 +1,8 @@
 -- A set has one verdict.
 use Rattle.std.proofs.Common.{◌≡◌, ℕ, List, Some, None}
 use Rattle.jvm_model.specs.declared.refusal.Refusal.{Refusal}
-use Rattle.jvm_model.specs.Verdict.{Accepted, IsRefused}
-use Rattle.set_laws.proofs.VerdictLaws.{verdict_unique}
+use Rattle.set_verdict.specs.Verdict.{Accepted, IsRefused}
+use Rattle.set_verdict.proofs.SetVerdicts.{verdict_unique}
 
 none_is_some : (refusal : Refusal) → None ≡ Some refusal → ⊥
 none_is_some refusal e = cc

@@ -5,7 +5,6 @@ use Rattle.dialogue.specs.Answers.{Answers}
 use Rattle.dialogue.specs.Dialogue.{Item}
 use Rattle.dialogue.specs.Limits.{Limits}
 use Rattle.dialogue.specs.Outcome.{Outcome}
-use Rattle.dialogue.proofs.Endings.{one_ending}
 use Rattle.image_form.specs.declared.record.Image.{Image}
 use Rattle.image_form.specs.declared.refusal.FormRefusal.{FormRefusal}
 use Rattle.image_form.specs.declared.refusal.FormRefusal.TheVariants.{Memory as NoFormMemory}
@@ -22,14 +21,12 @@ use Rattle.jvm_model.specs.declared.refusal.Cause.{Cause}
 use Rattle.jvm_model.specs.declared.refusal.Cause.TheVariants.{Memory as NoMemory}
 use Rattle.jvm_model.specs.declared.refusal.Cause.TheVariants as causes
 use Rattle.jvm_model.specs.declared.refusal.Refusal.{Refusal}
-use Rattle.jvm_model.specs.Machine as typed
 use Rattle.mote_model.specs.declared.ending.Ending.{Ending}
 use Rattle.mote_model.specs.declared.ending.Ending.TheVariants as split
-use Rattle.mote_model.specs.Machine.{machine, start_of}
-use Rattle.infuse_link.specs.RunsAlike.{SameEnding, RunsAlike}
-use Rattle.infuse_link.proofs.AcceptedSets.{set_runs as runs_alike}
-use Rattle.jvm_model.specs.SetImage.{IsImageOf}
-use Rattle.jvm_model.specs.Verdict.{IsRefused}
+use Rattle.set_verdict.specs.Verdict.{IsImageOf, IsRefused}
+use Rattle.set_outcome.specs.SetOutcome as typed
+use Rattle.set_outcome.specs.RunsAlike.{SameEnding, RunsAlike}
+use Rattle.set_outcome.proofs.OneOutcome.{image_run_is_one}
 use Rattle.mote_top.specs.declared.status.ImageRefusal.{ImageRefusal}
 use Rattle.mote_top.specs.declared.status.Status.{Status}
 use Rattle.mote_top.specs.declared.status.Status.TheVariants.{Uncaught, Refused, Infusion, HeapWanted, StackWanted, Memory}
@@ -41,7 +38,7 @@ use Rattle.mote_top.specs.Storing.{IsRefusedStatus}
 -- ---- runs
 
 -- the same ending has the same status
-same_status : (image : Image) (a : typed.Ending) (b : Ending) → SameEnding image a b → split_status image b ≡ typed_status a
+same_status : (image : Image) (a : typed.SetEnding) (b : Ending) → SameEnding image a b → split_status image b ≡ typed_status a
 same_status image typed.Done split.Done same = refl
 same_status image (typed.Uncaught name) (split.Uncaught class) same = ap (λ (text : List ℕ). Uncaught text) (sym same)
 same_status image typed.Spent split.Spent same = refl
@@ -62,11 +59,15 @@ made status dialogue left = record { status = status; dialogue = dialogue; left 
 same_reply : (s t : Status) (d e : List Item) (l m : Option (List ℕ)) → s ≡ t → d ≡ e → l ≡ m → made s d l ≡ made t e m
 same_reply s t d e l m p q r = cc
 
+-- the limited run of each accepted set and that of its image show the same
+abbrev pub SetsRunAlike : Type 0
+SetsRunAlike = (files : List (List ℕ)) (image : Image) → IsImageOf files image → (limits : Limits) (answers : Answers) → RunsAlike files image limits answers
+
 -- a run of the image of a set ends as the run of the set
-pub image_ends : (files : List (List ℕ)) (image : Image) → IsImageOf files image → (limits : Limits) (left : Option (List ℕ)) (answers : Answers) (reply : Reply) → ImageEndsAs image limits left answers reply → EndsAs files limits left answers reply
-image_ends files image is limits left answers reply run =
+pub image_ends : SetsRunAlike → (files : List (List ℕ)) (image : Image) → IsImageOf files image → (limits : Limits) (left : Option (List ℕ)) (answers : Answers) (reply : Reply) → ImageEndsAs image limits left answers reply → EndsAs files limits left answers reply
+image_ends runs_alike files image is limits left answers reply run =
     let both : RunsAlike files image limits answers = runs_alike files image is limits answers in
-    let one : run.outcome ≡ both.other = one_ending (machine image limits) (start_of image limits answers) run.outcome both.other run.ends both.ends_other in
+    let one : run.outcome ≡ both.other = image_run_is_one image limits answers run.outcome both.other run.ends both.ends_other in
     let status : split_status image run.outcome.ending ≡ typed_status both.outcome.ending = ap (λ (o : Outcome Ending). split_status image o.ending) one ∙ same_status image both.outcome.ending both.other.ending both.same.ending in
     record {
       outcome = both.outcome;
@@ -75,14 +76,14 @@ image_ends files image is limits left answers reply run =
     }
 
 -- a run of the image answers for the set
-pub set_runs : (files : List (List ℕ)) (image : Image) → IsImageOf files image → (limits : Limits) (left : Option (List ℕ)) (reply : Reply) → RunsImage image limits left reply → SetReplies files limits left reply
-set_runs files image is limits left reply run =
+pub set_runs : SetsRunAlike → (files : List (List ℕ)) (image : Image) → IsImageOf files image → (limits : Limits) (left : Option (List ℕ)) (reply : Reply) → RunsImage image limits left reply → SetReplies files limits left reply
+set_runs runs_alike files image is limits left reply run =
     inl (record {
       accepted = is.accepted;
       status = run.status;
       answers = run.answers;
       may = run.may;
-      ends = image_ends files image is limits left run.answers reply run.ends;
+      ends = image_ends runs_alike files image is limits left run.answers reply run.ends;
     })
 
 -- a run of the image answers for its infusion

@@ -1,5 +1,8 @@
 use Rattle.std.proofs.Common.{Vec, Global, ◌≡◌, inl, inr, ℕ, ◌+◌, ◌<◌, length, List, [], ◌∷◌, ◌++◌, take, map, get_or, sym, ap, ◌∙◌, subst, add-one}
 use Rattle.std.proofs.Math.Seq.{take-suc}
+use Rattle.std.specs.List.{AllByRecursion}
+use Rattle.byte_read.specs.Bytes.{AreBytes}
+use Rattle.type_rounds.proofs.tables.Lists.{all_append}
 use Rattle.class_file.specs.Relation.{IsClassFile}
 use Rattle.jvm_model.specs.Phases.{reading_refusal}
 use Rattle.infuse_link.specs.Sets.{AreRead}
@@ -37,7 +40,9 @@ loop-place-preserved c =
     let read : IsClassFile file.items c.in-Ok.class = subst (λ (bytes : List ℕ). IsClassFile bytes c.in-Ok.class) c.as_slice.ensures.value c.in-Ok.ensures.read in
     let classes = c.in-Ok-push.ensures.items in
     let more = one_more (take i all) c.loop-place.classes.items file.items c.in-Ok.class c.loop-place.invariant.so_far read in
+    let bytes : AreBytes file.items = subst AreBytes c.as_slice.ensures.value c.in-Ok.ensures.bytes in
     record {
+      bytes = subst (AllByRecursion AreBytes) (sym (taken_more all i file.items within is)) (all_append AreBytes (take i all) (file.items ∷ []) c.loop-place.invariant.bytes (bytes, tt));
       so_far = subst (AreRead (take (i + 1) all)) (sym classes) (subst (λ (fs : List (List ℕ)). AreRead fs (c.loop-place.classes.items ++ c.in-Ok.class ∷ [])) (sym (taken_more all i file.items within is)) more);
       left = scan_more reading_refusal all i file.items within is (read_passes i file.items c.in-Ok.class read) ∙ c.loop-place.invariant.left;
     }

@@ -1,10 +1,9 @@
 use Rattle.std.proofs.Common.{Vec, Global, ℕ, map}
-use Rattle.infuse_link.proofs.AcceptedSets.{set_image}
 use Rattle.mote_top.proofs.replies.Sets.{refused_status}
 use Rattle.mote_top.proofs.top.infusion_of.Goals as goal
 
 pub write_image-requires : goal.write_image-requires
-write_image-requires c = set_image (map (λ (v : Vec ℕ Global). v.items) c.args.files.now) c.in-Ok.image c.in-Ok.ensures.found
+write_image-requires c = c.accepted_sets_run.ensures.image (map (λ (v : Vec ℕ Global). v.items) c.args.files.now) c.in-Ok.image c.in-Ok.ensures.found
 
 pub returns-in-Ok-write_image-clause-ok : goal.returns-in-Ok-write_image-clause-ok
 returns-in-Ok-write_image-clause-ok c = record { image = c.in-Ok.image; is_image = c.in-Ok.ensures.found; is_encoding = c.in-Ok-write_image.ensures }

@@ -1,5 +1,0 @@
--- the same files
-use Rattle.infuse_files.proofs.linking.infuse_bodies.Given as goal
-
-abbrev pub ghost-infuse_typed : goal.ghost-infuse_typed
-ghost-infuse_typed g a = g.files

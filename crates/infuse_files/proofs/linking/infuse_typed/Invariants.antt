@@ -1,6 +1,0 @@
--- the classes with their typed bodies
-use Rattle.infuse_files.specs.Stages.{linked_of}
-use Rattle.infuse_files.proofs.linking.infuse_typed.Given as goal
-
-abbrev pub ghost-image_of : goal.ghost-image_of
-ghost-image_of g a = linked_of a.set.now a.typed.now

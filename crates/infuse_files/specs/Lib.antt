@@ -1,3 +1,0 @@
-pub mod Infused
-pub mod Sets
-pub mod Stages
