@@ -6,7 +6,7 @@ OPCODES = {
     "nop": 0x00, "iconst_0": 0x03, "iconst_1": 0x04, "iconst_2": 0x05, "iconst_3": 0x06,
     "iconst_4": 0x07, "iload_0": 0x1A, "iload_1": 0x1B, "istore_0": 0x3B, "istore_1": 0x3C,
     "iadd": 0x60, "isub": 0x64, "imul": 0x68, "ishl": 0x78, "iushr": 0x7C, "iand": 0x7E,
-    "ixor": 0x82, "return": 0xB1,
+    "ixor": 0x82, "ireturn": 0xAC, "return": 0xB1,
 }
 JUMPS = {
     "ifeq": 0x99, "ifne": 0x9A, "iflt": 0x9B, "ifge": 0x9C, "if_icmplt": 0xA1, "if_icmpge": 0xA2,
@@ -44,6 +44,10 @@ class Pool:
         pair = self._index(struct.pack(">BHH", 12, self.utf8(name), self.utf8(descriptor)))
         return self._index(struct.pack(">BHH", 10, self.class_(owner), pair))
 
+    def field(self, owner, name, descriptor):
+        pair = self._index(struct.pack(">BHH", 12, self.utf8(name), self.utf8(descriptor)))
+        return self._index(struct.pack(">BHH", 9, self.class_(owner), pair))
+
     def encoding(self):
         return struct.pack(">H", len(self.entries) + 1) + b"".join(self.entries)
 
@@ -76,6 +80,10 @@ def assemble(pool, lines):
                 code += struct.pack(">BH", 0x13, pool.integer(operands[0]))
             elif word == "invokestatic":
                 code += struct.pack(">BH", 0xB8, pool.method(*operands))
+            elif word == "getstatic":
+                code += struct.pack(">BH", 0xB2, pool.field(*operands))
+            elif word == "putstatic":
+                code += struct.pack(">BH", 0xB3, pool.field(*operands))
             elif word == "tableswitch":
                 low, targets, default = operands
                 code += b"\xaa" + b"\0" * (-(at + 1) % 4)
@@ -120,14 +128,25 @@ def class_bytes(
     return b"".join(parts)
 
 
-def program(name, lines, max_stack=3, max_locals=2, for_java=False, pool=None, attributes=()):
-    """A class whose main is these instructions. For a Java machine it has a main with arguments too."""
+def static_field(pool, name, descriptor):
+    return struct.pack(">HHHH", 0x0008, pool.utf8(name), pool.utf8(descriptor), 0)
+
+
+def program(
+    name, lines, max_stack=3, max_locals=2, for_java=False, pool=None, attributes=(), others=(), fields=(),
+):
+    """A class whose main is these instructions. Others are methods beside it, each a name, a descriptor and
+    instructions; fields are static ones, each a name and a descriptor. For a Java machine it has a main with
+    arguments too."""
     pool = pool or Pool()
-    code = assemble(pool, lines)
-    methods = [method(pool, "main", "()V", code_attribute(pool, code, max_stack, max_locals))]
+    methods = []
+    for called, descriptor, body in [("main", "()V", lines)] + list(others):
+        code = assemble(pool, body)
+        methods.append(method(pool, called, descriptor, code_attribute(pool, code, max_stack, max_locals)))
     if for_java:
         start = assemble(pool, [("invokestatic", name, "main", "()V"), "return"])
         methods.append(
             method(pool, "main", "([Ljava/lang/String;)V", code_attribute(pool, start, 0, 1))
         )
-    return class_bytes(pool, name, methods, attributes=attributes)
+    declared = [static_field(pool, *field) for field in fields]
+    return class_bytes(pool, name, methods, declared, attributes=attributes)

@@ -96,6 +96,55 @@ def lookup_switch(steps, count, bits):
     return loop_case(name, body + ["next:"], 8, steps)
 
 
+# ---- calls and statics
+
+
+def set_case(name, amount, unit, lines, others, fields=()):
+    return Case(
+        name,
+        amount,
+        unit,
+        [make.program("Bench", lines, others=others, fields=fields)],
+        make.program("Bench", lines, for_java=True, others=others, fields=fields),
+    )
+
+
+def calls(steps):
+    """Each turn calls a method that adds one to its argument: four steps of it beside eight of the loop."""
+    count = max(1, int(steps / 12))
+    body = ["iload_1", ("invokestatic", "Bench", "next", "(I)I"), "istore_1"]
+    following = [("next", "(I)I", ["iload_0", "iconst_1", "iadd", "ireturn"])]
+    return set_case("calls in a loop", count * 12, "step", loop(body, count), following)
+
+
+def small_calls(steps):
+    """The same over shorts, which are cut and extended."""
+    count = max(1, int(steps / 12))
+    body = ["iload_1", ("invokestatic", "Bench", "next", "(S)S"), "istore_1"]
+    following = [("next", "(S)S", ["iload_0", "iconst_1", "iadd", "ireturn"])]
+    return set_case("calls over shorts in a loop", count * 12, "step", loop(body, count), following)
+
+
+def recursion(depth):
+    """The numbers of Fibonacci by two calls each: about ten steps a call."""
+    others = [("fib", "(I)I", [
+        "iload_0", "iconst_2", ("if_icmpge", "more"), "iload_0", "ireturn", "more:",
+        "iload_0", "iconst_1", "isub", ("invokestatic", "Bench", "fib", "(I)I"),
+        "iload_0", "iconst_2", "isub", ("invokestatic", "Bench", "fib", "(I)I"), "iadd", "ireturn",
+    ])]
+    before, now = 1, 1
+    for _ in range(depth - 1):
+        before, now = now, before + now + 1
+    lines = [("bipush", depth), ("invokestatic", "Bench", "fib", "(I)I"), "istore_0", "return"]
+    return set_case("recursion", now, "call", lines, others)
+
+
+def statics(steps):
+    count = max(1, int(steps / 9))
+    body = [("getstatic", "Bench", "sum", "I"), "iload_0", "iadd", ("putstatic", "Bench", "sum", "I")]
+    return set_case("a static in a loop", count * 9, "step", loop(body, count), [], [("sum", "I")])
+
+
 # ---- the console
 
 
@@ -152,8 +201,7 @@ def infusing(size):
     classes = [sized_class("Bench", min(size, most))]
     classes += [sized_class("Bench%d" % k, most, with_main=False) for k in range(1, count)]
     name = "infusing, %d class%s" % (count, "" if count == 1 else "es")
-    wanted = (0,) if count == 1 else (3,)
-    return Case(name, size, "byte", classes, words=("infuse", "out.infusion"), wanted=wanted)
+    return Case(name, size, "byte", classes, words=("infuse", "out.infusion"))
 
 
 def calling_class(name, size):
@@ -174,7 +222,7 @@ def calling(size):
     count = max(1, size // (1 << 20))
     classes = [calling_class("Calls%d" % k, 1000000) for k in range(count)]
     amount = sum(len(content) for content in classes)
-    return Case("resolving calls, %d classes" % count, amount, "byte", classes, wanted=(3,))
+    return Case("resolving calls, %d classes" % count, amount, "byte", classes, wanted=(0, 3))
 
 
 # ---- many classes
@@ -189,7 +237,7 @@ def chain(count):
         methods = [make.method(pool, "main", "()V", code)]
         above = "C%d" % (k - 1) if k else "java/lang/Object"
         classes.append(make.class_bytes(pool, "C%d" % k, methods, above=above))
-    return Case("a chain of %d classes" % count, count, "class", classes, wanted=(3,))
+    return Case("a chain of %d classes" % count, count, "class", classes, wanted=(0, 3))
 
 
 def diamonds(levels):
@@ -290,6 +338,10 @@ def all_cases(steps):
     yield table_switch(steps)
     yield lookup_switch(steps, 8, 3)
     yield lookup_switch(steps / 100, 7000, 13)
+    yield calls(steps)
+    yield small_calls(steps)
+    yield recursion(30)
+    yield statics(steps)
     yield echo(int(steps / 100))
     yield numbers(int(steps / 100))
     for megabytes in (1, 2, 4, 8, 16):
